@@ -1,0 +1,3 @@
+-- The laws of the published definitions, over n and k.
+pub mod Bits
+pub mod Lists

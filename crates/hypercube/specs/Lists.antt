@@ -1,0 +1,39 @@
+-- What the definitions are written with: membership, and lists made by counting.
+use Prim.Native.Nat.{ℕ, zero, suc, _+_}
+use mathlib.Core.Path.{_≡_}
+use mathlib.Core.Logic.{_⊎_}
+use mathlib.Core.Bool.{Bool, true, false, _||_}
+use mathlib.Core.List.{List, [], _∷_, _++_}
+
+-- x is one of the list
+abbrev pub In : {A : Type 0} → A → List A → Type 0
+In x [] = ⊥
+In x (y ∷ ys) = (x ≡ y) ⊎ In x ys
+
+-- no entry stands twice
+abbrev pub Distinct : {A : Type 0} → List A → Type 0
+Distinct [] = Unit {0}
+Distinct (x ∷ xs) = (¬ In x xs) × Distinct xs
+
+-- the lists g i, g (i + 1), .., c of them, one after the other
+unfoldable pub over : {A : Type 0} → (ℕ → List A) → ℕ → ℕ → List A
+over g zero i = []
+over g (suc c) i = g i ++ over g c (i + 1)
+
+-- x alone where the test passes, else nothing
+abbrev pub only : {A : Type 0} → Bool → A → List A
+only true x = x ∷ []
+only false x = []
+
+-- i, i + 1, .., c numbers
+abbrev pub from : ℕ → ℕ → List ℕ
+from i c = over (λ x. x ∷ []) c i
+
+-- the numbers below N that pass the test, ascending
+abbrev pub passing : (ℕ → Bool) → ℕ → List ℕ
+passing test N = over (λ x. only (test x) x) N 0
+
+-- some entry passes the test
+unfoldable pub some-of : (ℕ → Bool) → List ℕ → Bool
+some-of test [] = false
+some-of test (x ∷ xs) = test x || some-of test xs
