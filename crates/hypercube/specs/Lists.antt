@@ -1,5 +1,5 @@
 -- What the definitions are written with: membership, and lists made by counting.
-use Prim.Native.Nat.{ℕ, zero, suc, _+_}
+use Prim.Native.Nat.{ℕ, zero, suc, _+_, _<_}
 use mathlib.Core.Path.{_≡_}
 use mathlib.Core.Logic.{_⊎_}
 use mathlib.Core.Bool.{Bool, true, false, _||_}
@@ -14,6 +14,10 @@ In x (y ∷ ys) = (x ≡ y) ⊎ In x ys
 abbrev pub Distinct : {A : Type 0} → List A → Type 0
 Distinct [] = Unit {0}
 Distinct (x ∷ xs) = (¬ In x xs) × Distinct xs
+
+-- some number below N has P
+abbrev pub Some : ℕ → (ℕ → Type 0) → Type 0
+Some N P = (x : ℕ) × (x < N) × P x
 
 -- the lists g i, g (i + 1), .., c of them, one after the other
 unfoldable pub over : {A : Type 0} → (ℕ → List A) → ℕ → ℕ → List A
