@@ -1,16 +1,17 @@
 -- The held subcubes. Document 01, the paragraph of demand 3: "A held subcube is the one that a job was last granted, if no release by that job
 -- was accepted since; its size is its number of nodes."
-use mathlib.Core.Bool.{Bool, true, false, not, cond}
+use mathlib.Core.Logic.{ite}
+use mathlib.Core.Bool.{not, cond}
 use mathlib.Core.List.{List, [], _∷_}
-use Prim.Native.Nat.{ℕ, zero, suc, _+_, _^_}
+use Prim.Native.Nat.{ℕ, _+_, _^_}
 use lib.ListN.{length}
 use lib.Dec.{eqb}
 use Rattle.hypercube.specs.Bits.{width}
 use Rattle.hypercube.specs.Lists.{In}
 use Rattle.hypercube.specs.Subcubes.{vertices}
-use Rattle.history.specs.Calls.{Call, Kind, release, Kind-discrete, kind, job, Log, start, _then_}
+use Rattle.history.specs.Calls.{Call, release, Kind-discrete, kind, job, Log, start, _then_}
 use Rattle.history.specs.Account.{History, countBelow}
-use Rattle.history.specs.Verdicts.{Verdict, granted, refused, done, orElse}
+use Rattle.history.specs.Verdicts.{Verdict, granted, refused, done}
 
 -- a job's subcube as it was told, by lowest node and star bits, with the calls before its grant
 pub record Held : Type 0 where
@@ -32,7 +33,7 @@ without j (g ∷ gs) = cond (eqb (g .holder) j) (without j gs) (g ∷ without j 
 abbrev pub heldAfter : Log → Call → Verdict → List Held → List Held
 heldAfter l c (granted j low stars t) gs = record { holder = j; low = low; stars = stars; before = l } ∷ without j gs
 heldAfter l c (refused m t) gs = gs
-heldAfter l c (done v) gs = orElse (Kind-discrete (kind c) release) (without (job c) gs) gs
+heldAfter l c (done v) gs = ite (Kind-discrete (kind c) release) (without (job c) gs) gs
 
 -- after a list of calls that were told what `told` says, from what was held before it
 abbrev pub held : (Log → Call → Verdict) → List Held → Log → List Held

@@ -1,16 +1,16 @@
 -- What the history says of a call, and what it is after it. Document 01, "Node and record", the paragraph of the history.
 use mathlib.Core.Path.{_≡_}
-use mathlib.Core.Logic.{_⊎_, _≢_, Dec·and, Dec·not}
+use mathlib.Core.Logic.{_≢_, ite, Dec·and, Dec·not}
 use mathlib.Core.Bool.{Bool, cond}
-use mathlib.Core.List.{List, [], _∷_, _++_}
+use mathlib.Core.List.{List, [], _∷_}
 use mathlib.Core.Option.{Option, none, some}
-use Prim.Native.Nat.{ℕ, zero, suc, _+_, _^_, _<_, _≤_}
+use Prim.Native.Nat.{ℕ, _^_}
 use native.Mathlib.Decide.{ℕ-discrete, decLe, decLt}
 use lib.ListN.{length}
 use lib.Dec.{eqb}
-use Rattle.hypercube.proofs.Decisions.{dec-or, dec-some, dec-every}
+use Rattle.hypercube.proofs.Decisions.{dec-or, dec-some, dec-every, _also_}
 use Rattle.hypercube.specs.Labels.{node, differing, size, relabelled}
-use Rattle.hypercube.specs.Search.{choice}
+use Rattle.hypercube.specs.Families.{choice}
 use Rattle.hypercube.specs.declared.Walk.{Walk}
 use Rattle.hypercube.specs.declared.Walk.the-variants.{Found, NoneFree}
 use Rattle.history.specs.Calls.{Call, Kind, good, fault, repaired, relabel, request, release, other, Kind-discrete, lengthField, kind, nodeField, job, dimension, strategy, Log, start, _then_}
@@ -25,21 +25,9 @@ pub data Verdict : Type 0 where
   done : ℕ → Verdict
 
 -- the first row that is decided to be met
-abbrev pub orElse : {P A : Type 0} → Dec P → A → A → A
-orElse (yes p) a b = a
-orElse (no h) a b = b
-
 unfoldable pub firstMet : (rs : List Row) (h : History) (c : Call) → Decided rs h c → Option ℕ
 firstMet [] h c d = none
-firstMet (r ∷ rs) h c d = orElse (d .0) (some (r .number)) (firstMet rs h c (d .1))
-
--- a pair, written in a row
-infixr 12 _also_
-abbrev pub _also_ : {P Q : Type 0} → P → Q → P × Q
-_also_ p q = (p, q)
-
-unfoldable pub dec-free : (h : History) (x : ℕ) → Dec (FreeNode h x)
-dec-free h x = Dec·and (ℕ-discrete (h .condition x) 1) (ℕ-discrete (h .holder x) 0)
+firstMet (r ∷ rs) h c d = ite (d .0) (some (r .number)) (firstMet rs h c (d .1))
 
 -- faulty by the history: what D is taken over
 abbrev pub faulty : History → ℕ → Bool
@@ -55,6 +43,7 @@ module _ (n : ℕ) where
       let releases = Kind-discrete (kind c) release in
       let goods = Kind-discrete (kind c) good in
       let repairs = Kind-discrete (kind c) repaired in
+      let free : (x : ℕ) → Dec (FreeNode h x) = λ x. Dec·and (ℕ-discrete (h .condition x) 1) (ℕ-discrete (h .holder x) 0) in
       let fails = ℕ-discrete (h .condition (nodeField c)) 2 in
       decLt (c .room) 12
       also dec-or (decLt (length (c .frame)) 4) (Dec·not (ℕ-discrete (lengthField c) (length (c .frame))))
@@ -68,7 +57,7 @@ module _ (n : ℕ) where
       also Dec·and releases (Dec·not holds)
       also dec-or (Dec·and goods fails) (Dec·and repairs (Dec·not fails))
       also Dec·and (Kind-discrete (kind c) relabel) (dec-some (2 ^ n) (λ x. h .holder x ≢ 0) (λ x. Dec·not (ℕ-discrete (h .holder x) 0)))
-      also Dec·and requests (dec-every (λ m. ¬ AllFree h m) (λ m. Dec·not (dec-every (FreeNode h) (dec-free h) (memberNodes h m))) (asked n c))
+      also Dec·and requests (dec-every (λ m. ¬ AllFree h m) (λ m. Dec·not (dec-every (FreeNode h) free (memberNodes h m))) (asked n c))
       also tt
 
   -- the number of the first cause that a call meets, if it meets any

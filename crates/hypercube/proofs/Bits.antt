@@ -2,12 +2,12 @@
 use Prim.Native.Nat.{ℕ, zero, suc, _+_, _-_, _*_, _/_, _%_, _^_, _<_, _≤_}
 use mathlib.Core.Logic.{_≢_, _⊎_, inl, inr, ⊎-elim}
 use mathlib.Core.Path.{_≡_, refl, sym, ap, ap₂, _∙_, subst}
-use mathlib.Core.Bool.{Bool, true, false}
+use mathlib.Core.Bool.{true, false}
 use native.Mathlib.Nat.{div-div-eq-div-mul, pow-succ', zero-div, div-eq-of-lt, lt-of-lt-of-le}
 use native.Mathlib.Omega.{arith}
 use borrow.Author.Tests.{eqb-true, eqb-false}
 use lib.Bits.{bitXor, differ, xor-step, xor-shr}
-use lib.Pow.{pow-pos, pow-mono, pow-add, high, shr-shr}
+use lib.Pow.{pow-pos, pow-mono, high, shr-shr}
 use Rattle.hypercube.specs.Bits.{bit, clear, ones}
 
 pub lt-or : (a b : ℕ) → (a < b) ⊎ (b ≤ a)

@@ -1,4 +1,20 @@
 -- The laws of the published definitions, over n and k.
 pub mod Bits
 pub mod Lists
+pub mod Tests
 pub mod Decisions
+pub mod Pigeonhole
+pub mod Vertices
+pub mod Labels
+pub mod Relabels
+pub mod Moved
+pub mod Apart
+pub mod GrayCode
+pub mod Members
+pub mod TreeLabels
+pub mod GrayMembers
+pub mod GrayLabels
+pub mod Counts
+pub mod Repeats
+pub mod Families
+pub mod Search

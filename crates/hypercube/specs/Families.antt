@@ -1,4 +1,4 @@
--- The four families, each the list of its members in order. Document 01, "Families and their order"; document 000.
+-- The four families, each the list of its members in order, and the first free member. Document 01, "Families and their order"; document 000.
 use Prim.Native.Nat.{ℕ, zero, suc, _+_, _-_, _*_, _%_, _^_, min}
 use mathlib.Core.Bool.{Bool, true, false}
 use mathlib.Core.List.{List, [], _∷_, _++_}
@@ -7,8 +7,10 @@ use lib.Bits.{bitXor}
 use Rattle.hypercube.specs.Lists.{over, only}
 use Rattle.hypercube.specs.Bits.{clear}
 use Rattle.hypercube.specs.Gray.{G}
-use Rattle.hypercube.specs.Subcubes.{subcube}
+use Rattle.hypercube.specs.Subcubes.{subcube, isFree}
 use Rattle.hypercube.specs.declared.Subcube.{Subcube}
+use Rattle.hypercube.specs.declared.Walk.{Walk}
+use Rattle.hypercube.specs.declared.Walk.the-variants.{Found, NoneFree}
 
 -- Buddy (0): "stars are the lowest k bits. Ascending by lowest label. 2^(n-k) members."
 -- Document 000's first algorithm lets α run to 2^(n-k+1) - 1; buddy has half of that (the law buddy-count).
@@ -63,3 +65,13 @@ family (suc zero) n k = gray n k
 family (suc (suc zero)) n k = tree n k
 family (suc (suc (suc zero))) n k = extended n k
 family (suc (suc (suc (suc s)))) n k = []
+
+-- the first member that passes the test, with its place counted on from t, or else the whole count
+unfoldable pub firstFree : (Subcube → Bool) → List Subcube → ℕ → Walk
+firstFree test [] t = NoneFree t
+firstFree test (c ∷ cs) t = elim (test c) [ true ↦ Found c (t + 1) | false ↦ firstFree test cs (t + 1) ]
+
+-- what a strategy chooses, where f tells which labels are free: "'Tried' is the granted member's place in that order, from 1.
+-- A walk that meets no free member gives refusal 14 with the family's whole count."
+abbrev pub choice : ℕ → ℕ → ℕ → (ℕ → Bool) → Walk
+choice strategy n k f = firstFree (isFree f) (family strategy n k) 0

@@ -5,4 +5,3 @@ pub mod Labels
 pub mod Subcubes
 pub mod Gray
 pub mod Families
-pub mod Search

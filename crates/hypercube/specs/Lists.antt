@@ -4,6 +4,7 @@ use mathlib.Core.Path.{_≡_}
 use mathlib.Core.Logic.{_⊎_}
 use mathlib.Core.Bool.{Bool, true, false, _||_}
 use mathlib.Core.List.{List, [], _∷_, _++_}
+use lib.ListN.{length}
 
 -- x is one of the list
 abbrev pub In : {A : Type 0} → A → List A → Type 0
@@ -41,3 +42,12 @@ passing test N = over (λ x. only (test x) x) N 0
 unfoldable pub some-of : (ℕ → Bool) → List ℕ → Bool
 some-of test [] = false
 some-of test (x ∷ xs) = test x || some-of test xs
+
+-- x is the first entry of the list that has P, and t is its place from 1
+pub record FirstWith {A : Type 0} (P : A → Type 0) (xs : List A) (x : A) (t : ℕ) : Type 0 where
+  pub front : List A
+  pub back : List A
+  pub split : xs ≡ front ++ x ∷ back
+  pub place : t ≡ length front + 1
+  pub has : P x
+  pub none-before : (y : A) → In y front → ¬ P y

@@ -1,10 +1,10 @@
 -- The table. Document 01, "Sessions of known outcome": "a/b t" is lowest node, star bits, tried.
 use mathlib.Core.List.{List, [], _∷_, map}
-use Prim.Native.Nat.{ℕ, _^_}
+use Prim.Native.Nat.{ℕ}
 use Rattle.hypercube.specs.Lists.{from}
 use Rattle.hypercube.specs.Labels.{label}
 use Rattle.history.specs.Calls.{Call}
-use Rattle.history.specs.Account.{History, fresh}
+use Rattle.history.specs.Account.{fresh}
 use Rattle.history.specs.Verdicts.{Verdict, granted, refused, done}
 use Rattle.sessions.specs.Frames.{good, fault, relabel, request, afterAll, verdictsOf}
 
