@@ -5,6 +5,8 @@ use mathlib.Core.Bool.{Bool, true, false, not, cond, false≢true}
 use mathlib.Core.List.{List, _∷_}
 use mathlib.Core.Option.{Option, none, some}
 use Prim.Native.Nat.{ℕ, _^_, _<_, _≤_}
+use native.Mathlib.Nat.{not-le-of-lt}
+use native.Mathlib.Decide.{ℕ-discrete}
 use borrow.Author.Tests.{ne-eqb}
 use lib.Dec.{eqb}
 use Rattle.hypercube.specs.Lists.{In, Distinct}
@@ -18,14 +20,14 @@ use Rattle.history.specs.Calls.{Call, Kind, good, fault, repaired, relab
 use Rattle.history.specs.Account.{History, among, putAll, wipe, memberNodes}
 use Rattle.history.specs.Verdicts.{cause, chosen, give, grant, accept, tell, stepBy, verdictBy, step, verdict, after, verdicts}
 use Rattle.history.specs.Held.{Held, nodes, without, heldAfter, held}
-use Rattle.history.specs.Claims.{Bounded, HeldRight}
+use Rattle.history.specs.Claims.{HeldRight}
 use Rattle.history.proofs.Rows.{cause-none}
 use Rattle.history.proofs.Passed.{Passed, passed}
 use Rattle.history.proofs.Chosen.{chosen-first}
 use Rattle.history.proofs.Counting.{means-among, count-same}
 use Rattle.history.proofs.Holders.{Apart, holderOf, apart-disjoint, holder-is, held-by, job-once, in-without, apart-without, holder-without, count-held}
 use Rattle.history.proofs.Granted.{granted-nodes}
-use Rattle.history.proofs.Bounds.{bounded}
+use Rattle.history.proofs.Bounds.{Sound, sound}
 
 abbrev releases : Kind → Bool
 releases good = false
@@ -50,7 +52,7 @@ module _ (n : ℕ) (s : History) where
     pub apart : Apart gs
     pub holders : (x : ℕ) → f x ≡ holderOf gs x
 
-  module _ (small : n ≤ 10) (l : Log) (c : Call) (gs : List Held) (B : Bounded n (after n s l)) (kept : Kept (after n s l .holder) gs) where
+  module _ (small : n ≤ 10) (l : Log) (c : Call) (gs : List Held) (S : Sound n (after n s l .condition) (after n s l .directions)) (kept : Kept (after n s l .holder) gs) where
     kept-out : (j : ℕ) → Kept (wipe (after n s l .holder) j) (without j gs)
     kept-out j = record {
       fair = λ g i. kept .fair g (in-without j gs g i .0);
@@ -66,7 +68,7 @@ module _ (n : ℕ) (s : History) where
         → Kept (putAll (after n s l .holder) (memberNodes (after n s l) m) (job c)) (new m ∷ without (job c) gs)
     kept-in p k m t e =
         let f = chosen-first n (after n s l) c m t e in
-        let g = granted-nodes n (after n s l) c m small (B .permutes) (p .fits k) (first-in f) in
+        let g = granted-nodes n (after n s l) c m small (S .permutes) (p .fits k) (first-in f) in
         let set : job c ≢ 0 = p .job-set (inl k) in
         let mine : Fair (new m) = record {
           job-set = set;
@@ -121,11 +123,21 @@ module _ (n : ℕ) (s : History) where
     unfolding step verdict
     kept-next = kept-by (cause n (after n s l) c) refl
 
-  -- from any start that is bounded and whose holders are those of the subcubes held there
-  module _ (small : n ≤ 10) (B : Bounded n s) (gs : List Held) (kept : Kept (s .holder) gs) where
+  -- from any start that is sound and whose holders are those of the subcubes held there
+  module _ (small : n ≤ 10) (S : Sound n (s .condition) (s .directions)) (gs : List Held) (kept : Kept (s .holder) gs) where
     keeps : (l : Log) → Kept (after n s l .holder) (held (verdicts n s) gs l)
     keeps start = kept
-    keeps (l then c) = kept-next small l c (held (verdicts n s) gs l) (bounded n small s B l) (keeps l)
+    keeps (l then c) = kept-next small l c (held (verdicts n s) gs l) (sound n small s S l) (keeps l)
+
+    -- no node beyond the cube has a holder
+    pub unheld-beyond : (l : Log) (x : ℕ) → 2 ^ n ≤ x → after n s l .holder x ≡ 0
+    unheld-beyond l x b = go (ℕ-discrete (holderOf (held (verdicts n s) gs l) x) 0)
+      where
+        go : Dec (holderOf (held (verdicts n s) gs l) x ≡ 0) → after n s l .holder x ≡ 0
+        go (yes z) = keeps l .holders x ∙ z
+        go (no z) =
+            let r = held-by (held (verdicts n s) gs l) x z in
+            absurd (not-le-of-lt (keeps l .fair (r .0) (r .1) .within x (r .2)) b)
 
     pub held-right : (l : Log) → HeldRight n s l (held (verdicts n s) gs l)
     held-right l =
