@@ -1,0 +1,116 @@
+//! The frame call: document 01, "Six calls and their frames" and "When a
+//! call says no". Each function checks its causes in the table's order.
+
+use crate::choose::{choose_with, Answer};
+use crate::cube::{self, Nodes};
+use crate::family::EXTENDED;
+use crate::frame::{self, Call, Reply};
+use crate::record::{self, Record, FAULTY, GOOD, NODES, UNCONFIRMED};
+
+/// Answers one frame. Gives 0, or the refusal's number; a refused call leaves
+/// the record as it was, and 1 and 2 leave the reply too.
+pub fn call(record: &mut [u8], frame: &[u8], reply: &mut [u8]) -> u32 {
+    let Ok(record) = <&mut Record>::try_from(record) else {
+        return 1;
+    };
+    if !record::is_valid(record) {
+        return 1;
+    }
+    if reply.len() < 12 {
+        return 2;
+    }
+    let answer = match frame::read(frame) {
+        Ok(call) => answer(record, call),
+        Err(number) => Reply::refuse(number),
+    };
+    answer.write(reply);
+    match answer {
+        Reply::Refused { number, .. } => number.into(),
+        _ => 0,
+    }
+}
+
+fn answer(record: &mut Record, call: Call) -> Reply {
+    match call {
+        Call::Good { node } => report(record, node, GOOD),
+        Call::Fault { node } => report(record, node, FAULTY),
+        Call::Repaired { node } => report(record, node, UNCONFIRMED),
+        Call::Relabel => relabel(record),
+        Call::Request { job, k, strategy } => request(record, job, k, strategy),
+        Call::Release { job } => release(record, job),
+    }
+}
+
+/// 'good', 'fault' and 'repaired', by the condition they set.
+fn report(record: &mut Record, node: u16, to: u8) -> Reply {
+    let node = u32::from(node);
+    if node >= 1 << record::dimension(record) {
+        return Reply::refuse(8);
+    }
+    let was_faulty = record::condition(record, node) == FAULTY;
+    if (to == GOOD && was_faulty) || (to == UNCONFIRMED && !was_faulty) {
+        return Reply::refuse(12);
+    }
+    record::set_condition(record, node, to);
+    let value = if to == FAULTY { record::holder(record, node) } else { 0 };
+    Reply::Done { value }
+}
+
+fn relabel(record: &mut Record) -> Reply {
+    if record::any_holder(record, |holder| holder != 0) {
+        return Reply::refuse(13);
+    }
+    let conditions = record::conditions(record).iter().zip(0..);
+    let faulty = conditions.filter(|(c, _)| **c == FAULTY).map(|(_, node)| node);
+    let (map, size) = cube::relabel(record::dimension(record), faulty);
+    record::set_map(record, &map);
+    Reply::Done { value: size as u16 }
+}
+
+fn request(record: &mut Record, job: u16, k: u8, strategy: u8) -> Reply {
+    let (n, k) = (record::dimension(record), u32::from(k));
+    if job == 0 {
+        return Reply::refuse(6);
+    }
+    if k > n {
+        return Reply::refuse(7);
+    }
+    if strategy > EXTENDED {
+        return Reply::refuse(9);
+    }
+    if record::any_holder(record, |holder| holder == job) {
+        return Reply::refuse(10);
+    }
+    let free = record::free_nodes(record);
+    let nodes = Nodes::new(&record::map(record));
+    match choose_with(strategy, n, k, |label| free[nodes.node(label) as usize % NODES]) {
+        Answer::NoneFree { count } => Reply::Refused { number: 14, tried: count as u16 },
+        Answer::Found { low, stars, tried } => grant(record, job, low, stars, tried),
+    }
+}
+
+/// Makes the job the holder of a member, which is given by label.
+fn grant(record: &mut Record, job: u16, low: u32, stars: u32, tried: u32) -> Reply {
+    let map = record::map(record);
+    let (lowest, stars) = (cube::node(&map, low), cube::node(&map, stars));
+    let mut part = 0;
+    loop {
+        record::set_holder(record, lowest | part, job);
+        part = part.wrapping_sub(stars) & stars;
+        if part == 0 {
+            break;
+        }
+    }
+    Reply::Granted { job, lowest: lowest as u16, stars: stars as u16, tried: tried as u16 }
+}
+
+fn release(record: &mut Record, job: u16) -> Reply {
+    if job == 0 {
+        return Reply::refuse(6);
+    }
+    let given_back = record::release(record, job);
+    if given_back == 0 {
+        return Reply::refuse(11);
+    }
+    Reply::Done { value: given_back }
+}

@@ -1,0 +1,28 @@
+//! Second program of the partition manager for binary hypercubes.
+//!
+//! It is written from document 01 alone ("Partition manager for binary
+//! hypercubes") and is what the proved program is compared with in test runs.
+//! `setup` and `call` work on byte slices, as the C boundary of document 01
+//! does; `choose` and `family` answer for the four strategies by label.
+
+#![forbid(unsafe_code)]
+
+pub mod call;
+pub mod choose;
+pub mod cube;
+pub mod family;
+pub mod frame;
+pub mod gen;
+pub mod log;
+mod noise;
+pub mod record;
+pub mod rng;
+pub mod tally;
+
+pub use call::call;
+pub use choose::{choose, Answer};
+pub use cube::{label, node, relabel, Map, IDENTITY, MAX_N};
+pub use family::{family, gray, Subcube};
+pub use frame::Reply;
+pub use record::setup;
+pub use tally::Tally;

@@ -1,0 +1,211 @@
+//! Calls compared with a plain account of them, as document 01's history is.
+
+use cube_reference::gen::write_log;
+use cube_reference::rng::Rng;
+use cube_reference::{call, family};
+
+use crate::support::*;
+
+#[derive(Clone)]
+struct History {
+    n: u32,
+    /// The new direction of each direction up to n.
+    map: Vec<u32>,
+    condition: Vec<u8>,
+    holder: Vec<u16>,
+}
+
+/// A reply's fields after its length.
+type Words = Vec<u16>;
+
+impl History {
+    fn fresh(n: u32) -> History {
+        let nodes = 1 << n;
+        History { n, map: (1..=n).collect(), condition: vec![0; nodes], holder: vec![0; nodes] }
+    }
+
+    /// A state that passes refusal 1 and need not come from calls.
+    fn any(n: u32, rng: &mut Rng) -> History {
+        let mut state = History::fresh(n);
+        for i in (1..state.map.len()).rev() {
+            state.map.swap(i, rng.below(i as u32 + 1) as usize);
+        }
+        let (held, sick) = (rng.below(9), rng.below(9));
+        for node in 0..1 << n {
+            state.condition[node] = match rng.below(32) {
+                roll if roll < sick => 2 * (roll % 2) as u8,
+                _ => 1,
+            };
+            if rng.below(32) < held {
+                state.holder[node] = rng.pick(&[1, 2, 255, 256, 65535]);
+            }
+        }
+        state
+    }
+
+    fn record(&self) -> Vec<u8> {
+        let mut bytes = vec![0x10, 0x0c, 1, 0, self.n as u8];
+        bytes.extend(self.map.iter().map(|direction| *direction as u8));
+        bytes.extend(self.n as u8 + 1..=10);
+        bytes.push(0);
+        bytes.extend(self.holder.iter().flat_map(|job| two(*job)));
+        bytes.resize(16 + 2048, 0);
+        bytes.extend(&self.condition);
+        bytes.resize(3088, 0);
+        bytes
+    }
+
+    fn label(&self, node: usize) -> usize {
+        (1..).zip(&self.map).map(|(i, new)| (node >> (i - 1) & 1) << (new - 1)).sum()
+    }
+
+    /// The number returned, and the reply's words; none for refusal 2.
+    fn call(&mut self, frame: &[u8], reply: usize) -> (u16, Option<Words>) {
+        if reply < 12 {
+            return (2, None);
+        }
+        if let Some(number) = self.cause(frame) {
+            return (number, Some(vec![0x8002, number, 0]));
+        }
+        match at(frame, 2) {
+            0x0201 => self.request(frame),
+            0x0202 => (0, Some(vec![0x8003, self.release(at(frame, 4))])),
+            0x0203 => (0, Some(vec![0x8003, self.relabel()])),
+            kind => {
+                let node = usize::from(at(frame, 4));
+                self.condition[node] = [1, 2, 0][usize::from(kind - 0x0101)];
+                let holder = if kind == 0x0102 { self.holder[node] } else { 0 };
+                (0, Some(vec![0x8003, holder]))
+            }
+        }
+    }
+
+    /// The first of the causes 3 to 13 that the frame meets.
+    fn cause(&self, frame: &[u8]) -> Option<u16> {
+        if frame.len() < 4 || usize::from(at(frame, 0)) != frame.len() {
+            return Some(3);
+        }
+        let sizes = [(0x0101, 6), (0x0102, 6), (0x0103, 6), (0x0203, 4), (0x0201, 8), (0x0202, 6)];
+        let kind = at(frame, 2);
+        let Some((_, size)) = sizes.into_iter().find(|row| row.0 == kind) else {
+            return Some(4);
+        };
+        if frame.len() != size {
+            return Some(5);
+        }
+        let fields = [&frame[4..], &[0; 4]].concat();
+        let (job, k, strategy) = (at(&fields, 0), fields[2], fields[3]);
+        let condition = self.condition.get(usize::from(job)); // a report's node
+        let report = kind < 0x0200;
+        let holds = self.holder.contains(&job);
+        let (request, release, relabel) = (kind == 0x0201, kind == 0x0202, kind == 0x0203);
+        let causes = [
+            (6, (request || release) && job == 0),
+            (7, request && u32::from(k) > self.n),
+            (8, report && condition.is_none()),
+            (9, request && strategy > 3),
+            (10, request && holds),
+            (11, release && !holds),
+            (12, kind == 0x0101 && condition == Some(&2)),
+            (12, kind == 0x0103 && condition != Some(&2)),
+            (13, relabel && self.holder.iter().any(|job| *job != 0)),
+        ];
+        causes.iter().find(|row| row.1).map(|row| row.0)
+    }
+
+    fn request(&mut self, frame: &[u8]) -> (u16, Option<Words>) {
+        let (job, k, strategy) = (at(frame, 4), frame[6], frame[7]);
+        let mut free = vec![false; 1 << self.n];
+        for node in 0..1 << self.n {
+            free[self.label(node)] = self.condition[node] == 1 && self.holder[node] == 0;
+        }
+        let members = family(strategy, self.n, k.into());
+        let Some(place) = members.iter().position(|m| is_free(m.low, m.stars, &free)) else {
+            return (14, Some(vec![0x8002, 14, members.len() as u16]));
+        };
+        let (low, stars) = (members[place].low as usize, members[place].stars as usize);
+        let inside = |node: &usize| self.label(*node) & !stars == low;
+        let nodes: Vec<usize> = (0..1 << self.n).filter(inside).collect();
+        nodes.iter().for_each(|node| self.holder[*node] = job);
+        let star_bits = nodes.iter().fold(0, |bits, node| bits | (node ^ nodes[0]));
+        (0, Some(vec![0x8001, job, nodes[0] as u16, star_bits as u16, place as u16 + 1]))
+    }
+
+    fn release(&mut self, job: u16) -> u16 {
+        let held = self.holder.iter_mut().filter(|holder| **holder == job);
+        held.map(|holder| *holder = 0).count() as u16
+    }
+
+    fn relabel(&mut self) -> u16 {
+        let faulty: Vec<usize> = (0..1 << self.n).filter(|v| self.condition[*v] == 2).collect();
+        let bit = |node: usize, i: &u32| node >> (i - 1) & 1;
+        let differ = |i: &u32| faulty.iter().any(|v| bit(*v, i) != bit(faulty[0], i));
+        let (d, others): (Vec<u32>, Vec<u32>) = (1..=self.n).partition(differ);
+        let identity = d.is_empty() || others.is_empty();
+        for (new, i) in (1..).zip(d.iter().chain(&others)) {
+            self.map[*i as usize - 1] = if identity { *i } else { new };
+        }
+        d.len() as u16
+    }
+}
+
+/// Document 01's words: at k = 0 its node is free, otherwise both halves
+/// across its highest star are.
+fn is_free(low: u32, stars: u32, free: &[bool]) -> bool {
+    if stars == 0 {
+        return free[low as usize];
+    }
+    let highest = 1 << stars.ilog2();
+    is_free(low, stars - highest, free) && is_free(low + highest, stars - highest, free)
+}
+
+/// The frames of a log after its set-up; a broken end comes as it is.
+fn frames(log: &[u8]) -> Vec<&[u8]> {
+    let (mut frames, mut rest) = (Vec::new(), &log[6..]);
+    while !rest.is_empty() {
+        let length = if rest.len() < 4 { 0 } else { usize::from(at(rest, 0)) };
+        let taken = if (4..=rest.len()).contains(&length) { length } else { rest.len() };
+        frames.push(&rest[..taken]);
+        rest = &rest[taken..];
+    }
+    frames
+}
+
+/// Makes the calls on the record and in the history, and compares the number,
+/// the reply and the whole record after each.
+fn compare(history: &mut History, seed: u64, count: u64, rng: &mut Rng) {
+    let mut log = Vec::new();
+    write_log(seed, count, &mut log).unwrap();
+    let mut record = history.record();
+    for frame in frames(&log) {
+        let length = rng.pick(&[12, 12, 12, 12, 12, 12, 13, 40, 11, 0]);
+        let (number, words) = history.call(frame, length);
+        let mut expected = vec![0xcc; length];
+        if let Some(words) = words {
+            let size = 2 + 2 * words.len();
+            let bytes = two(size as u16).into_iter().chain(words.into_iter().flat_map(two));
+            expected.splice(..size, bytes);
+        }
+        let mut reply = vec![0xcc; length];
+        assert_eq!(call(&mut record, frame, &mut reply), number.into(), "{seed} {frame:x?}");
+        assert_eq!(reply, expected, "seed {seed}, frame {frame:x?}");
+        assert!(record == history.record(), "record, seed {seed}, frame {frame:x?}");
+    }
+}
+
+#[test]
+fn lists_of_calls_follow_the_history() {
+    let mut rng = Rng::new(2);
+    for seed in 0..44 {
+        compare(&mut History::fresh((seed % 11) as u32), seed, 1200, &mut rng);
+    }
+}
+
+#[test]
+fn calls_on_any_valid_record_follow_it_too() {
+    let mut rng = Rng::new(3);
+    for seed in 0..1100 {
+        let mut history = History::any((seed % 11) as u32, &mut rng);
+        compare(&mut history, seed, 40, &mut rng);
+    }
+}

@@ -1,0 +1,12 @@
+//! The reference program held to document 01 and to the sources it cites.
+
+mod families;
+mod generator;
+mod history;
+mod log;
+mod records;
+mod refusals;
+mod replies;
+mod sessions;
+mod sources;
+mod support;
