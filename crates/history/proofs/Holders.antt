@@ -7,9 +7,9 @@ use Prim.Native.Nat.{ℕ, _+_, _<_}
 use borrow.Author.Tests.{eqb-false}
 use lib.ListN.{length}
 use lib.Dec.{eqb}
-use Rattle.hypercube.specs.Lists.{In, Distinct}
+use Rattle.hypercube.specs.Lists.{In, Distinct, among, countBelow}
 use Rattle.hypercube.proofs.Tests.{cases, refutes}
-use Rattle.history.specs.Account.{among, putAll, wipe, countBelow}
+use Rattle.history.specs.Account.{putAll, wipe}
 use Rattle.history.specs.Held.{Held, nodes, without, Disjoint, sizes}
 use Rattle.history.proofs.Counting.{means-among, none-below, count-put}
 
