@@ -2,14 +2,14 @@
 use Prim.Native.Nat.{ℕ, zero, suc, _+_, _-_, _*_, _/_, _%_, _^_, _<_, _≤_}
 use mathlib.Core.Logic.{⊎-elim}
 use mathlib.Core.Path.{_≡_, refl, sym, ap, _∙_}
-use native.Mathlib.Nat.{pow-succ', mod-eq-of-lt, div-div-eq-div-mul, mul-comm, lt-of-lt-of-le}
+use native.Mathlib.Nat.{pow-succ', mod-eq-of-lt, div-div-eq-div-mul, mul-comm}
 use native.Mathlib.Omega.{arith}
 use lib.Bits.{bitXor, xor-shr, xor-lt, xor-self, xor-shifted}
-use lib.Pow.{pow-pos, pow-mono, mod-pow-add, ones-lt}
+use lib.Pow.{pow-pos, mod-pow-add, ones-lt}
 use Rattle.hypercube.specs.Bits.{width, bit}
 use Rattle.hypercube.specs.Gray.{G, positionOf, position}
-use Rattle.hypercube.proofs.Bits.{bit-cases}
-use Rattle.hypercube.proofs.Apart.{xor-half, xor-low, xor-cancel, xor-swap, OneApart, one-apart}
+use Rattle.hypercube.proofs.Bits.{bit-cases, in-width, xor-half, xor-low, xor-cancel, xor-swap}
+use Rattle.hypercube.proofs.Apart.{OneApart, one-apart}
 
 -- ---- a label's digits from j up are the label of its position's
 
@@ -59,10 +59,10 @@ G-position (suc n) l h = go (positionOf n (l / 2)) (G-position n (l / 2) (omega 
 -- the same at the width of all labels, which beyond n changes nothing
 at-width : (n l : ℕ) → n ≤ width → l < 2 ^ n → position l ≡ positionOf n l
 at-width n l w h =
-    ap position (sym (G-position n l h)) ∙ position-G width (positionOf n l) (lt-of-lt-of-le (position-lt n l h) (pow-mono w))
+    ap position (sym (G-position n l h)) ∙ position-G width (positionOf n l) (in-width n (positionOf n l) w (position-lt n l h))
 
 pub position-of-label : (n b : ℕ) → n ≤ width → b < 2 ^ n → position (G b) ≡ b
-position-of-label n b w h = position-G width b (lt-of-lt-of-le h (pow-mono w))
+position-of-label n b w h = position-G width b (in-width n b w h)
 
 pub label-at-position : (n l : ℕ) → n ≤ width → l < 2 ^ n → (position l < 2 ^ n) × (G (position l) ≡ l)
 label-at-position n l w h = rw (at-width n l w h) (position-lt n l h, G-position n l h)

@@ -1,8 +1,8 @@
 -- The laws of the published definitions, over n and k.
-pub mod Bits
-pub mod Lists
 pub mod Tests
 pub mod Decisions
+pub mod Bits
+pub mod Lists
 pub mod Pigeonhole
 pub mod Vertices
 pub mod Labels
@@ -16,5 +16,5 @@ pub mod GrayMembers
 pub mod GrayLabels
 pub mod Counts
 pub mod Repeats
-pub mod Families
 pub mod Search
+pub mod Families

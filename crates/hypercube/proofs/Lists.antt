@@ -1,13 +1,19 @@
--- Lists made by counting: membership, length, no repeats. Assumes nothing.
-use Prim.Native.Nat.{ℕ, zero, suc, _+_, _*_, _<_, _≤_}
-use mathlib.Core.Logic.{_⊎_, inl, inr, ⊎-elim}
+-- Lists made by counting: membership, places, length, sums, no repeats. Assumes nothing.
+use Prim.Native.Nat.{ℕ, zero, suc, _+_, _*_, _^_, _<_, _≤_}
+use mathlib.Core.Logic.{_↔_, _⊎_, inl, inr, ⊎-elim}
 use mathlib.Core.Path.{_≡_, refl, sym, ap, ap₂, _∙_, subst}
-use mathlib.Core.Bool.{Bool, true, false, false≢true}
+use mathlib.Core.Bool.{Bool, true, false, false≢true, or-true}
 use mathlib.Core.List.{List, [], _∷_, _++_, map}
+use native.Mathlib.Nat.{pow-succ'}
 use native.Mathlib.Omega.{arith}
-use lib.ListN.{length, length-append}
-use Rattle.hypercube.specs.Lists.{In, Distinct, over, only, from}
+use lib.ListN.{length, length-append, getD}
+use Rattle.hypercube.specs.Lists.{In, Distinct, over, only, from, passing, some-of}
 use Rattle.hypercube.proofs.Bits.{lt-or}
+use Rattle.hypercube.proofs.Tests.{cases}
+
+-- f takes no two numbers below w to one
+abbrev pub OneToOne : {A : Type 0} → ℕ → (ℕ → A) → Type 0
+OneToOne w f = (i j : ℕ) → i < w → j < w → f i ≡ f j → i ≡ j
 
 -- ---- membership
 
@@ -35,9 +41,11 @@ of-map f y [] i = absurd i
 of-map f y (x ∷ xs) (inl e) = (x, inl refl, e)
 of-map f y (x ∷ xs) (inr i) = let r = of-map f y xs i in (r .0, inr (r .1), r .2)
 
+pub single : {A : Type 0} (x y : A) → In y (x ∷ []) → y ≡ x
+single x y = ⊎-elim (λ e. e) (λ z. absurd z)
+
 pub in-only : {A : Type 0} (b : Bool) (x y : A) → In y (only b x) → (b ≡ true) × (y ≡ x)
-in-only true x y (inl e) = (refl, e)
-in-only true x y (inr i) = absurd i
+in-only true x y i = (refl, single x y i)
 in-only false x y i = absurd i
 
 pub only-in : {A : Type 0} (b : Bool) (x : A) → b ≡ true → In x (only b x)
@@ -61,16 +69,64 @@ over-in g (suc c) i x y a b m =
     (λ l. let e : x ≡ i = omega arith in in-left y (g i) (over g c (i + 1)) (subst (λ (z : ℕ). In y (g z)) e m))
     (lt-or i x)
 
+-- one entry for each number
+pub in-each : {A : Type 0} (g : ℕ → A) (c i : ℕ) (y : A) → In y (over (λ x. g x ∷ []) c i) → (x : ℕ) × (i ≤ x) × (x < i + c) × (y ≡ g x)
+in-each g c i y m = let r = in-over (λ x. g x ∷ []) c i y m in (r .0, r .1, r .2, single (g (r .0)) y (r .3))
+
 pub in-from : (i c x : ℕ) → In x (from i c) → (i ≤ x) × (x < i + c)
-in-from i c x m =
-    let r = in-over (λ z. z ∷ []) c i x m in
-    let e : x ≡ r .0 = ⊎-elim (λ e. e) (λ z. absurd z) (r .3) in
-    (omega (arith, r .1), omega (arith, r .2))
+in-from i c x m = let r = in-each (λ z. z) c i x m in (omega (arith, r .1, r .3), omega (arith, r .2, r .3))
 
 pub from-in : (i c x : ℕ) → i ≤ x → x < i + c → In x (from i c)
 from-in i c x a b = over-in (λ z. z ∷ []) c i x x a b (inl refl)
 
--- ---- length
+-- the numbers below N that pass a test
+pub in-passing : (test : ℕ → Bool) (N x : ℕ) → In x (passing test N) ↔ ((x < N) × (test x ≡ true))
+in-passing test N x = (
+  λ m.
+      let r = in-over (λ z. only (test z) z) N 0 x m in
+      let o = in-only (test (r .0)) (r .0) x (r .3) in
+      (omega (arith, r .2, o .1), ap test (o .1) ∙ o .0),
+  λ h. over-in (λ z. only (test z) z) N 0 x x (omega arith) (omega (arith, h .0)) (only-in (test x) x (h .1)),
+)
+
+-- some entry passes it
+pub some-in : (test : ℕ → Bool) (xs : List ℕ) → some-of test xs ≡ true → (x : ℕ) × In x xs × (test x ≡ true)
+unfolding some-of
+some-in test [] e = absurd (false≢true e)
+some-in test (x ∷ xs) e =
+    cases (test x) (λ t. (x, inl refl, t)) (λ t. let r = some-in test xs (rw t at e) in (r .0, inr (r .1), r .2))
+
+pub in-some : (test : ℕ → Bool) (xs : List ℕ) (x : ℕ) → In x xs → test x ≡ true → some-of test xs ≡ true
+unfolding some-of
+in-some test [] x m t = absurd m
+in-some test (y ∷ ys) x (inl e) t = rw (← e, t)
+in-some test (y ∷ ys) x (inr m) t = rw (in-some test ys x m t) (or-true (test y))
+
+-- ---- places
+
+pub getD-in : (xs : List ℕ) (i : ℕ) → i < length xs → In (getD xs i 0) xs
+getD-in [] i l = absurd (omega arith)
+getD-in (x ∷ xs) zero l = inl refl
+getD-in (x ∷ xs) (suc i) l = inr (getD-in xs i (omega arith))
+
+pub getD-from : (a c i : ℕ) → i < c → getD (from a c) i 0 ≡ a + i
+unfolding over
+getD-from a zero i l = absurd (omega arith)
+getD-from a (suc c) zero l = omega arith
+getD-from a (suc c) (suc i) l = getD-from (a + 1) c i (omega arith) ∙ omega arith
+
+pub from-append : (a c d : ℕ) → from a c ++ from (a + c) d ≡ from a (c + d)
+unfolding over
+from-append a zero d =
+    let e : a + 0 ≡ a = omega arith in
+    let f : 0 + d ≡ d = omega arith in
+    rw (e, f)
+from-append a (suc c) d =
+    let e : suc c + d ≡ suc (c + d) = omega arith in
+    let f : a + suc c ≡ a + 1 + c = omega arith in
+    rw (e, f) (ap (λ l. a ∷ l) (from-append (a + 1) c d))
+
+-- ---- sums and length
 
 -- f i + f (i + 1) + .., c terms
 unfoldable pub sum : (ℕ → ℕ) → ℕ → ℕ → ℕ
@@ -82,15 +138,48 @@ unfolding sum
 sum-same f g h zero i = refl
 sum-same f g h (suc c) i = ap₂ _+_ (h i) (sum-same f g h c (i + 1))
 
-pub sum-const : (v c i : ℕ) → sum (λ x. v) c i ≡ c * v
+-- equal terms
+pub sum-level : (f : ℕ → ℕ) (v c i : ℕ) → ((x : ℕ) → i ≤ x → x < i + c → f x ≡ v) → sum f c i ≡ c * v
 unfolding sum
-sum-const v zero i = omega arith
-sum-const v (suc c) i = omega (arith, sum-const v c (i + 1))
+sum-level f v zero i h = omega arith
+sum-level f v (suc c) i h =
+    omega (arith, h i (omega arith) (omega arith), sum-level f v c (i + 1) (λ x a b. h x (omega arith) (omega arith)))
+
+pub sum-const : (v c i : ℕ) → sum (λ x. v) c i ≡ c * v
+sum-const v c i = sum-level (λ x. v) v c i (λ x a b. refl)
+
+pub sum-add : (f g : ℕ → ℕ) (c i : ℕ) → sum (λ x. f x + g x) c i ≡ sum f c i + sum g c i
+unfolding sum
+sum-add f g zero i = refl
+sum-add f g (suc c) i = omega (arith, sum-add f g c (i + 1))
+
+-- the inner sum first, or the outer
+pub sum-swap : (f : ℕ → ℕ → ℕ) (c i d j : ℕ) → sum (λ x. sum (f x) d j) c i ≡ sum (λ y. sum (λ x. f x y) c i) d j
+unfolding sum
+sum-swap f zero i d j = sym (sum-const 0 d j ∙ omega arith)
+sum-swap f (suc c) i d j =
+    ap (λ (m : ℕ). sum (f i) d j + m) (sum-swap f c (i + 1) d j) ∙ sym (sum-add (f i) (λ y. sum (λ x. f x y) c (i + 1)) d j)
+
+-- two by two
+sum-pairs : (f : ℕ → ℕ) (c i : ℕ) → sum f (2 * c) (2 * i) ≡ sum (λ x. f (2 * x) + f (2 * x + 1)) c i
+unfolding sum
+sum-pairs f zero i = refl
+sum-pairs f (suc c) i =
+    let e : 2 * suc c ≡ suc (suc (2 * c)) = omega arith in
+    let d : 2 * i + 1 + 1 ≡ 2 * (i + 1) = omega arith in
+    rw (e, d) (omega (arith, sum-pairs f c (i + 1)))
+
+pub by-pairs : (f g : ℕ → ℕ) (r : ℕ) → ((x : ℕ) → f (2 * x) + f (2 * x + 1) ≡ g x) → sum f (2 ^ suc r) 0 ≡ sum g (2 ^ r) 0
+by-pairs f g r h = ap (λ (c : ℕ). sum f c 0) (pow-succ' 2 r) ∙ sum-pairs f (2 ^ r) 0 ∙ sum-same _ g h (2 ^ r) 0
 
 pub length-over : {A : Type 0} (g : ℕ → List A) (c i : ℕ) → length (over g c i) ≡ sum (λ x. length (g x)) c i
 unfolding over sum
 length-over g zero i = refl
 length-over g (suc c) i = length-append (g i) (over g c (i + 1)) ∙ ap (λ (m : ℕ). length (g i) + m) (length-over g c (i + 1))
+
+-- the lists' lengths known
+pub length-sum : {A : Type 0} (g : ℕ → List A) (f : ℕ → ℕ) → ((x : ℕ) → length (g x) ≡ f x) → (c i : ℕ) → length (over g c i) ≡ sum f c i
+length-sum g f h c i = length-over g c i ∙ sum-same _ f h c i
 
 -- one entry for each number
 pub length-each : {A : Type 0} (g : ℕ → A) (c i : ℕ) → length (over (λ x. g x ∷ []) c i) ≡ c
@@ -134,11 +223,18 @@ distinct-over g (suc c) i d h =
     let l : i + 1 ≤ r .0 = r .1 in
     absurd (omega arith))
 
+pub distinct-each : {A : Type 0} (g : ℕ → A) (c i : ℕ) → ((x z : ℕ) → i ≤ x → x < i + c → i ≤ z → z < i + c → g x ≡ g z → x ≡ z)
+    → Distinct (over (λ x. g x ∷ []) c i)
+distinct-each g c i h =
+    distinct-over (λ x. g x ∷ []) c i (λ x a b. distinct-only true (g x))
+    (λ x z y a b e f p q. h x z a b e f (sym (single (g x) y p) ∙ single (g z) y q))
+
 pub distinct-from : (i c : ℕ) → Distinct (from i c)
-distinct-from i c =
-    distinct-over (λ z. z ∷ []) c i (λ x a b. (λ j. j, tt))
-    (λ x z y a b e f p q. sym (single y x p) ∙ single y z q)
-  where
-    single : (y x : ℕ) → In y (x ∷ []) → y ≡ x
-    single y x (inl e) = e
-    single y x (inr i) = absurd i
+distinct-from i c = distinct-each (λ z. z) c i (λ x z a b e f q. q)
+
+pub distinct-places : (xs : List ℕ) → Distinct xs → OneToOne (length xs) (λ i. getD xs i 0)
+distinct-places [] d i j p q e = absurd (omega arith)
+distinct-places (x ∷ xs) d zero zero p q e = refl
+distinct-places (x ∷ xs) d zero (suc j) p q e = absurd (d .0 (rw e (getD-in xs j (omega arith))))
+distinct-places (x ∷ xs) d (suc i) zero p q e = absurd (d .0 (rw e at (getD-in xs i (omega arith))))
+distinct-places (x ∷ xs) d (suc i) (suc j) p q e = ap suc (distinct-places xs (d .1) i j (omega arith) (omega arith) e)

@@ -1,50 +1,18 @@
 -- Relabelling: the map permutes, D is the directions in which faulty nodes differ, and D empty or full gives the identity. Assumes nothing.
-use Prim.Native.Nat.{ℕ, zero, suc, _+_, _-_, _^_, _<_, _≤_}
+use Prim.Native.Nat.{ℕ, suc, _+_, _-_, _^_, _<_, _≤_}
 use mathlib.Core.Logic.{_≢_, _↔_, _⊎_, inl, inr, ⊎-elim}
 use mathlib.Core.Path.{_≡_, refl, sym, ap, _∙_, subst}
-use mathlib.Core.Bool.{Bool, true, false, not, _||_, false≢true, or-true}
+use mathlib.Core.Bool.{Bool, true, false, not}
 use mathlib.Core.List.{List, [], _∷_, _++_}
 use native.Mathlib.Omega.{arith}
-use borrow.Author.Tests.{eqb-false, ne-eqb, not-true}
 use lib.Dec.{eqb}
 use lib.ListN.{length, getD, length-append, length-map, List·getD-append}
 use lib.Seq.{getD-append-add}
-use Rattle.hypercube.specs.Lists.{In, Distinct, over, only, from, passing, some-of}
+use Rattle.hypercube.specs.Lists.{In, Distinct, over, from, passing, some-of}
 use Rattle.hypercube.specs.Bits.{width, bit}
 use Rattle.hypercube.specs.Labels.{identity, Permutes, differ, differing, size, assign, relabelled}
-use Rattle.hypercube.proofs.Lists.{in-only, only-in, in-over, over-in, in-from, length-from, distinct-from}
-use Rattle.hypercube.proofs.Pigeonhole.{OneToOne}
-
--- ---- lists by places
-
-getD-in : (xs : List ℕ) (i : ℕ) → i < length xs → In (getD xs i 0) xs
-getD-in [] i l = absurd (omega arith)
-getD-in (x ∷ xs) zero l = inl refl
-getD-in (x ∷ xs) (suc i) l = inr (getD-in xs i (omega arith))
-
-distinct-places : (xs : List ℕ) → Distinct xs → OneToOne (length xs) (λ i. getD xs i 0)
-distinct-places [] d i j p q e = absurd (omega arith)
-distinct-places (x ∷ xs) d zero zero p q e = refl
-distinct-places (x ∷ xs) d zero (suc j) p q e = absurd (d .0 (rw e (getD-in xs j (omega arith))))
-distinct-places (x ∷ xs) d (suc i) zero p q e = absurd (d .0 (rw e at (getD-in xs i (omega arith))))
-distinct-places (x ∷ xs) d (suc i) (suc j) p q e = ap suc (distinct-places xs (d .1) i j (omega arith) (omega arith) e)
-
-getD-from : (a c i : ℕ) → i < c → getD (from a c) i 0 ≡ a + i
-unfolding over
-getD-from a zero i l = absurd (omega arith)
-getD-from a (suc c) zero l = omega arith
-getD-from a (suc c) (suc i) l = getD-from (a + 1) c i (omega arith) ∙ omega arith
-
-from-append : (a c d : ℕ) → from a c ++ from (a + c) d ≡ from a (c + d)
-unfolding over
-from-append a zero d =
-    let e : a + 0 ≡ a = omega arith in
-    let f : 0 + d ≡ d = omega arith in
-    rw (e, f)
-from-append a (suc c) d =
-    let e : suc c + d ≡ suc (c + d) = omega arith in
-    let f : a + suc c ≡ a + 1 + c = omega arith in
-    rw (e, f) (ap (λ l. a ∷ l) (from-append (a + 1) c d))
+use Rattle.hypercube.proofs.Lists.{in-from, in-passing, some-in, in-some, getD-in, getD-from, from-append, length-from, distinct-from, distinct-places}
+use Rattle.hypercube.proofs.Tests.{Means, means-eq, means-not}
 
 -- ---- a map of which the first n are these
 
@@ -106,8 +74,8 @@ relabel-permutes n h faulty =
     let bs : List Bool = differing n faulty in
     let l : length bs ≡ n = length-differing n faulty in
     let s : size bs ≤ n = size-le n faulty in
-    permutes n (assign bs 1 (size bs + 1)) h (length-assign bs 1 (size bs + 1) ∙ l) (distinct-assign bs 1 (size bs + 1) (omega arith))
-    (λ v m. ⊎-elim (λ r. omega arith) (λ r. omega arith) (in-assign bs 1 (size bs + 1) v m))
+    permutes n (assign bs 1 _) h (length-assign bs 1 _ ∙ l) (distinct-assign bs 1 _ (omega arith))
+    (λ v m. ⊎-elim (λ r. omega arith) (λ r. omega arith) (in-assign bs 1 _ v m))
 
 -- ---- the identity
 
@@ -149,31 +117,6 @@ relabel-identity n faulty h c =
 
 -- ---- D
 
-some-in : (test : ℕ → Bool) (xs : List ℕ) → some-of test xs ≡ true → (x : ℕ) × In x xs × (test x ≡ true)
-unfolding some-of
-some-in test [] e = absurd (false≢true e)
-some-in test (x ∷ xs) e = go (test x) refl (some-in test xs) e
-  where
-    go : (b : Bool) → test x ≡ b → (some-of test xs ≡ true → (y : ℕ) × In y xs × (test y ≡ true)) → (b || some-of test xs) ≡ true
-        → (y : ℕ) × In y (x ∷ xs) × (test y ≡ true)
-    go true t r e = (x, inl refl, t)
-    go false t r e = let y = r e in (y .0, inr (y .1), y .2)
-
-in-some : (test : ℕ → Bool) (xs : List ℕ) (x : ℕ) → In x xs → test x ≡ true → some-of test xs ≡ true
-unfolding some-of
-in-some test [] x m t = absurd m
-in-some test (y ∷ ys) x (inl e) t = rw (← e, t)
-in-some test (y ∷ ys) x (inr m) t = rw (in-some test ys x m t) (or-true (test y))
-
-in-passing : (test : ℕ → Bool) (N x : ℕ) → In x (passing test N) ↔ ((x < N) × (test x ≡ true))
-in-passing test N x = (
-  λ m.
-      let r = in-over (λ z. only (test z) z) N 0 x m in
-      let o = in-only (test (r .0)) (r .0) x (r .3) in
-      (omega (arith, r .2, o .1), ap test (o .1) ∙ o .0),
-  λ h. over-in (λ z. only (test z) z) N 0 x x (omega arith) (omega (arith, h .0)) (only-in (test x) x (h .1)),
-)
-
 -- direction i + 1 is in D exactly where two faulty nodes differ in bit i
 pub in-D : (n i : ℕ) (faulty : ℕ → Bool) → (differ (passing faulty (2 ^ n)) i ≡ true)
     ↔ ((x : ℕ) × (y : ℕ) × (x < 2 ^ n) × (y < 2 ^ n) × (faulty x ≡ true) × (faulty y ≡ true) × (bit x i ≢ bit y i))
@@ -183,12 +126,11 @@ in-D n i faulty = (
       let q = some-in (apart (p .0)) xs (p .2) in
       let x = in-passing faulty (2 ^ n) (p .0) .0 (p .1) in
       let y = in-passing faulty (2 ^ n) (q .0) .0 (q .1) in
-      let ne : bit (p .0) i ≢ bit (q .0) i = eqb-false (bit (p .0) i) (bit (q .0) i) (not-true (eqb (bit (p .0) i) (bit (q .0) i)) (q .2)) in
-      (p .0, q .0, x .0, y .0, x .1, y .1, ne),
+      (p .0, q .0, x .0, y .0, x .1, y .1, means-apart (p .0) (q .0) .holds (q .2)),
   λ r.
       let x = in-passing faulty (2 ^ n) (r .0) .1 (r .2, r .4) in
       let y = in-passing faulty (2 ^ n) (r .1) .1 (r .3, r .5) in
-      in-some other xs (r .0) x (in-some (apart (r .0)) xs (r .1) y (ap not (ne-eqb (bit (r .0) i) (bit (r .1) i) (r .6)))),
+      in-some other xs (r .0) x (in-some (apart (r .0)) xs (r .1) y (means-apart (r .0) (r .1) .shows (r .6))),
 )
   where
     xs : List ℕ
@@ -196,6 +138,9 @@ in-D n i faulty = (
 
     apart : ℕ → ℕ → Bool
     apart x y = not (eqb (bit x i) (bit y i))
+
+    means-apart : (x y : ℕ) → Means (apart x y) (bit x i ≢ bit y i)
+    means-apart x y = means-not (means-eq (bit x i) (bit y i))
 
     other : ℕ → Bool
     other x = some-of (apart x) xs

@@ -68,6 +68,13 @@ says test (c ∷ cs) s = go (test c) refl (says test cs (s + 1))
         (1, refl, record { front = []; back = cs; split = refl; place = refl; has = e; none-before = λ y i. absurd i })
     go false e r = says-more test c cs s e (firstFree test cs (s + 1)) r
 
+-- it goes by the test of the members alone
+pub search-same : (p q : Subcube → Bool) (cs : List Subcube) (t : ℕ) → ((c : Subcube) → In c cs → p c ≡ q c) → firstFree p cs t ≡ firstFree q cs t
+unfolding firstFree
+search-same p q [] t h = refl
+search-same p q (c ∷ cs) t h = rw (h c (inl refl), firstFree)
+    (ap (λ (w : Walk). elim (q c) as (λ _. Walk) [ true ↦ Found c (t + 1) | false ↦ w ]) (search-same p q cs (t + 1) (λ d i. h d (inr i))))
+
 module _ (test : Subcube → Bool) (cs : List Subcube) where
   -- what is found is the first member that passes, and 'tried' is its place
   pub found-first : (c : Subcube) (t : ℕ) → firstFree test cs 0 ≡ Found c t → FirstWith (λ d. test d ≡ true) cs c t

@@ -1,9 +1,9 @@
 -- A test and the fact that it stands for: one record, with the tests' connectives. Assumes nothing.
-use mathlib.Core.Path.{_≡_, refl, sym, _∙_}
-use mathlib.Core.Logic.{_⊎_, inl, inr, _↔_}
-use mathlib.Core.Bool.{Bool, true, false, not, _&&_, _||_, true≢false, false≢true}
+use mathlib.Core.Path.{_≡_, refl, sym, ap, _∙_}
+use mathlib.Core.Logic.{_⊎_, inl, inr, ⊎-elim, _↔_}
+use mathlib.Core.Bool.{Bool, true, false, not, _&&_, _||_, true≢false, false≢true, or-true}
 use Prim.Native.Nat.{ℕ, _<_, _≤_}
-use borrow.Author.Tests.{ltb-true, leb-true, eqb-true, eq-eqb, lt-ltb, le-leb}
+use borrow.Author.Tests.{ltb-true, leb-true, eqb-true, eq-eqb, lt-ltb, le-leb, not-true}
 use lib.Dec.{eqb, ltb, leb}
 
 -- by cases on a test, with the equation
@@ -22,6 +22,9 @@ fails m e p = true≢false (sym (m .shows p) ∙ e)
 pub refutes : {b : Bool} {P : Type 0} → Means b P → ¬ P → b ≡ false
 refutes {b} m h = cases b (λ e. absurd (h (m .holds e))) (λ e. e)
 
+pub means-iff : {b : Bool} {P Q : Type 0} → Means b P → P ↔ Q → Means b Q
+means-iff m e = record { holds = λ h. e .0 (m .holds h); shows = λ q. m .shows (e .1 q) }
+
 -- two tests of facts that follow from each other are equal
 pub same-test : {a b : Bool} {P Q : Type 0} → Means a P → Means b Q → P ↔ Q → a ≡ b
 same-test {a} {b} m k e = cases a (λ z. z ∙ sym (k .shows (e .0 (m .holds z)))) (λ z. z ∙ sym (refutes k (λ q. fails m z (e .1 q))))
@@ -36,35 +39,16 @@ pub means-le : (a b : ℕ) → Means (leb a b) (a ≤ b)
 means-le a b = record { holds = leb-true a b; shows = le-leb a b }
 
 pub means-not : {b : Bool} {P : Type 0} → Means b P → Means (not b) (¬ P)
-means-not {b} {P} m = record { holds = go b m; shows = back b m }
-  where
-    go : (a : Bool) → Means a P → not a ≡ true → ¬ P
-    go true k e p = false≢true e
-    go false k e p = false≢true (k .shows p)
-
-    back : (a : Bool) → Means a P → (¬ P) → not a ≡ true
-    back true k h = absurd (h (k .holds refl))
-    back false k h = refl
+means-not {b} m = record { holds = λ e. fails m (not-true b e); shows = λ h. ap not (refutes m h) }
 
 pub means-and : {a b : Bool} {P Q : Type 0} → Means a P → Means b Q → Means (a && b) (P × Q)
-means-and {a} {b} {P} {Q} m k = record { holds = go a m; shows = back a m }
-  where
-    go : (a : Bool) → Means a P → a && b ≡ true → P × Q
-    go true m e = (m .holds refl, k .holds e)
-    go false m e = absurd (false≢true e)
-
-    back : (a : Bool) → Means a P → P × Q → a && b ≡ true
-    back true m h = k .shows (h .1)
-    back false m h = m .shows (h .0)
+means-and {a} m k = record {
+  holds = λ e. cases a (λ t. (m .holds t, k .holds (rw t at e))) (λ t. absurd (false≢true (rw t at e)));
+  shows = λ h. rw (m .shows (h .0)) (k .shows (h .1));
+}
 
 pub means-or : {a b : Bool} {P Q : Type 0} → Means a P → Means b Q → Means (a || b) (P ⊎ Q)
-means-or {a} {b} {P} {Q} m k = record { holds = go a m; shows = back a m }
-  where
-    go : (a : Bool) → Means a P → a || b ≡ true → P ⊎ Q
-    go true m e = inl (m .holds refl)
-    go false m e = inr (k .holds e)
-
-    back : (a : Bool) → Means a P → P ⊎ Q → a || b ≡ true
-    back true m h = refl
-    back false m (inl p) = absurd (false≢true (m .shows p))
-    back false m (inr q) = k .shows q
+means-or {a} m k = record {
+  holds = λ e. cases a (λ t. inl (m .holds t)) (λ t. inr (k .holds (rw t at e)));
+  shows = ⊎-elim (λ p. rw (m .shows p)) (λ q. rw (k .shows q) (or-true a));
+}
