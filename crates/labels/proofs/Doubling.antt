@@ -1,0 +1,89 @@
+-- The node of a label with one bit more above it is that label's node and that bit's: the nodes by label, doubled. Assumes nothing.
+use Prim.Native.Nat.{ℕ, suc, _+_, _-_, _^_, _<_, _≤_}
+use mathlib.Core.Path.{_≡_, refl, sym, ap, _∙_}
+use mathlib.Core.Logic.{by-cases}
+use mathlib.Core.List.{List, [], _∷_}
+use native.Mathlib.Decide.{ℕ-discrete}
+use native.Mathlib.Nat.{pow-succ'}
+use native.Mathlib.Omega.{arith}
+use lib.ListN.{getD, set}
+use lib.Pow.{pow-mono}
+use Rattle.hypercube.specs.Bits.{bit}
+use Rattle.hypercube.specs.Labels.{node}
+use Rattle.hypercube.specs.declared.Node.{Node}
+use Rattle.hypercube.proofs.Bits.{power-one, power-other, bit-zero, bit-high, set-same, set-other}
+use Rattle.labels.specs.Directions.{Directions}
+use Rattle.labels.specs.Flags.{numbered, nodeAt, nodes}
+use Rattle.labels.proofs.Directions.{node-small}
+use Rattle.labels.proofs.Flags.{cube-le, upTo, upTo-at, upTo-all, upTo-more, upTo-one}
+
+-- ---- one bit more
+
+bit-double : (j l i : ℕ) → l < 2 ^ j → bit (l + 2 ^ j) i ≡ bit l i + bit (2 ^ j) i
+bit-double j l i h =
+    let z : bit l j ≡ 0 = bit-high l j j h (omega arith) in
+    by-cases (ℕ-discrete i j) (λ e. rw e (omega (arith, set-same j l z, power-one j)))
+    (λ ne. omega (arith, set-other j i l ne z, power-other j i ne))
+
+pub node-double : (ds : List ℕ) (j l : ℕ) → l < 2 ^ j → node ds (l + 2 ^ j) ≡ node ds l + node ds (2 ^ j)
+unfolding node
+node-double [] j l h = refl
+node-double (d ∷ ds) j l h = omega (arith, bit-double j l (d - 1) h, node-double ds j l h)
+
+pub node-zero : (ds : List ℕ) → node ds 0 ≡ 0
+unfolding node
+node-zero [] = refl
+node-zero (d ∷ ds) = omega (arith, bit-zero (d - 1), node-zero ds)
+
+-- ---- the nodes by label, of which the first i are written
+
+abbrev pub nodesTo : ℕ → List ℕ → ℕ → List Node
+nodesTo n ds i = upTo n (nodeAt ds) (numbered 0) i
+
+-- the node of label 0 is 0
+pub nodes-one : (n : ℕ) (ds : List ℕ) → n ≤ 10 → nodesTo n ds 0 ≡ nodesTo n ds 1
+nodes-one n ds h = upTo-one n (nodeAt ds) (numbered 0) h (ap numbered (sym (node-zero ds)))
+
+pub nodes-all : (n : ℕ) (ds : List ℕ) → nodesTo n ds (2 ^ n) ≡ nodes n ds
+nodes-all n ds = upTo-all n (nodeAt ds) (numbered 0)
+
+-- what is known in one turn: the labels below size = 2^j, and l more, are written; the step is the node of that bit alone
+pub record Turn (n : ℕ) (ds : List ℕ) (j size step l : ℕ) (xs : List Node) : Type 0 where
+  pub dimension : n ≤ 10
+  pub directions : Directions ds
+  pub below : j < n
+  pub power : size ≡ 2 ^ j
+  pub alone : step ≡ node ds size
+  pub inside : l < size
+  pub so-far : xs ≡ nodesTo n ds (size + l)
+
+module _ {n : ℕ} {ds : List ℕ} {j size step l : ℕ} {xs : List Node} (t : Turn n ds j size step l xs) where
+  abbrev lower : ℕ
+  lower = getD xs l (numbered 0) .0
+
+  label-below : size + l < 2 ^ n
+  label-below = omega (arith, t .power, t .inside, pow-succ' 2 j, pow-mono {i = suc j} {j = n} (t .below))
+
+  pub place-below : size + l < 1024
+  place-below = omega (arith, label-below, cube-le n (t .dimension))
+
+  lower-node : lower ≡ node ds l
+  lower-node =
+      let at = upTo-at n (nodeAt ds) (numbered 0) (size + l) l (omega (arith, t .inside)) (omega (arith, label-below)) in
+      ap (λ (ys : List Node). getD ys l (numbered 0) .0) (t .so-far) ∙ ap (λ (y : Node). y .0) at
+
+  next-node : lower + step ≡ node ds (size + l)
+  next-node =
+      let e : l + 2 ^ j ≡ size + l = omega (arith, t .power) in
+      let s : step ≡ node ds (2 ^ j) = t .alone ∙ ap (node ds) (t .power) in
+      omega (arith, lower-node, s, node-double ds j l (omega (arith, t .power, t .inside)), ap (node ds) e)
+
+  pub next-below : lower + step < 1024
+  next-below = rw next-node (node-small 0 (size + l) (t .directions))
+
+  pub nodes-more : set xs (size + l) (numbered (lower + step)) ≡ nodesTo n ds (size + (l + 1))
+  nodes-more =
+      let e : size + l + 1 ≡ size + (l + 1) = omega arith in
+      ap (λ (ys : List Node). set ys (size + l) (numbered (lower + step))) (t .so-far)
+      ∙ upTo-more n (nodeAt ds) (numbered 0) (t .dimension) (size + l) (numbered (lower + step)) label-below (ap numbered next-node)
+      ∙ ap (nodesTo n ds) e

@@ -1,0 +1,7 @@
+-- Laws by idea; the functions' proofs cite them.
+pub mod Directions
+pub mod Filling
+pub mod Flags
+pub mod Doubling
+pub mod Differing
+pub mod Assigning
