@@ -1,0 +1,328 @@
+// The walks over the four families, on labels: the first free member with its place, or the family's whole count.
+// Document 01, "Families and their order". Which labels are free is told by flags, 1 where a label is.
+use hypercube::Label;
+use hypercube::Subcube;
+use hypercube::Walk;
+ghost use mathlib.Core.Path.{_≡_};
+ghost use mathlib.Core.Bool.{true};
+ghost use Prim.Native.Nat.{_+_, _-_, _*_, _%_, _^_, _≤_, _<_, min};
+ghost use Rattle.hypercube.specs.Bits.{bit};
+ghost use Rattle.hypercube.specs.Gray.{G};
+ghost use Rattle.gray.specs.Tables.{labelTable};
+ghost use Rattle.hypercube.specs.Subcubes.{isFree};
+ghost use Rattle.hypercube.specs.Families.{buddyMember, buddy, grayMember, gray, treeMember, tree, more, extended, firstFree, choice};
+ghost use Rattle.walks.specs.Flagged.{flagged};
+ghost use Rattle.walks.specs.Inside.{Inside, Testable, Highest};
+ghost use Rattle.walks.specs.Each.{eachMember, eachCount, each};
+ghost use Rattle.walks.specs.Blocks.{treeBlock, zeroDigits};
+ghost use Rattle.walks.specs.Stands.{Stands};
+
+// 2 to the e.
+fn pow2(e: u16) -> u16
+    requires { ⌜ e < 16 ⌝ }
+    ensures { λ r. ⌜ r ≡ 2 ^ e ⌝ }
+{
+    1 << e
+}
+
+// Digit p of x, from 0.
+fn digit(x: u16, p: u16) -> u16
+    requires { ⌜ p < 16 ⌝ }
+    ensures { λ r. ⌜ r ≡ bit x p ⌝ }
+{
+    (x >> p) % 2
+}
+
+// The highest star of s, as a number.
+fn highest(s: u16) -> u16
+    requires { ⌜ 0 < s ⌝ }
+    ensures { λ r. ⌜ Highest s r ⌝ }
+{
+    1 << (15 - u16::leading_zeros(s))
+}
+
+// Whether a subcube of k stars is free: "at k = 0, its node is free, otherwise both halves across its highest star are free".
+pub fn free(flags: &[u8; 1024], c: Subcube, k: u16) -> bool
+    requires { ⌜ Testable k c ⌝ }
+    ensures { λ r. ⌜ r ≡ isFree (flagged (now (flags .entry))) c ⌝ }
+{
+    let low = c.low.0;
+    if k == 0 {
+        let i = low as usize;
+        return flags[i] == 1;
+    }
+    let star = highest(c.stars);
+    let rest = c.stars - star;
+    let lower = Subcube {
+        low: Label(low),
+        stars: rest,
+    };
+    let upper = Subcube {
+        low: Label(low + star),
+        stars: rest,
+    };
+    free(flags, lower, k - 1) && free(flags, upper, k - 1)
+}
+
+// Buddy's member α: the lowest k bits are stars.
+fn buddy_member(k: u16, alpha: u16) -> Subcube
+    requires { ⌜ Inside (buddyMember k alpha) ⌝ }
+    ensures { λ r. ⌜ r ≡ buddyMember k alpha ⌝ }
+{
+    let unit = pow2(k);
+    Subcube {
+        low: Label(alpha * unit),
+        stars: unit - 1,
+    }
+}
+
+// The lesser of two.
+fn lesser(a: u16, b: u16) -> u16
+    ensures { λ r. ⌜ r ≡ min a b ⌝ }
+{
+    if a < b { a } else { b }
+}
+
+// The label at position b, by Gray's table.
+fn label_at(labels: &[u32; 1024], b: u16) -> Label
+    requires { ⌜ b < 1024 ⌝ }
+    requires { ⌜ now labels ≡ labelTable ⌝ }
+    ensures { λ r. ⌜ r .0 ≡ G b ⌝ }
+{
+    Label(labels[b as usize] as u16)
+}
+
+// Gray's member α, above the lowest j bits: the neighbours at positions α and α + 1 of 2^m, the last's next being the first.
+fn gray_member(labels: &[u32; 1024], m: u16, j: u16, alpha: u16) -> Subcube
+    requires { ⌜ (m ≤ 10) × (alpha < 2 ^ m) ⌝ }
+    requires { ⌜ Inside (grayMember m j alpha) ⌝ }
+    requires { ⌜ now labels ≡ labelTable ⌝ }
+    ensures { λ r. ⌜ r ≡ grayMember m j alpha ⌝ }
+{
+    let a = label_at(labels, alpha).0;
+    let b = label_at(labels, (alpha + 1) % pow2(m)).0;
+    let unit = pow2(j);
+    Subcube {
+        low: Label(lesser(a, b) * unit),
+        stars: unit - 1 + (a ^ b) * unit,
+    }
+}
+
+// Member α of a family that has one for each α: Gray's, for k below n, or buddy's, which needs no table.
+fn each_member(labels: &[u32; 1024], gray: bool, n: u16, k: u16, alpha: u16) -> Subcube
+    requires { ⌜ (k ≤ n) × (n ≤ 10) × (alpha < eachCount gray n k) ⌝ }
+    requires { ⌜ Inside (eachMember gray n k alpha) ⌝ }
+    requires { ⌜ (gray ≡ true → now labels ≡ labelTable) ⌝ }
+    ensures { λ r. ⌜ r ≡ eachMember gray n k alpha ⌝ }
+{
+    if gray {
+        if k == 0 {
+            Subcube {
+                low: label_at(labels, alpha),
+                stars: 0,
+            }
+        } else {
+            gray_member(labels, n - (k - 1), k - 1, alpha)
+        }
+    } else {
+        buddy_member(k, alpha)
+    }
+}
+
+// How many members such a family has.
+fn each_count(gray: bool, n: u16, k: u16) -> u16
+    requires { ⌜ (k ≤ n) × (n ≤ 10) ⌝ }
+    ensures { λ r. ⌜ r ≡ eachCount gray n k ⌝ }
+{
+    if gray {
+        if k == 0 { pow2(n) } else { pow2(n - (k - 1)) }
+    } else {
+        pow2(n - k)
+    }
+}
+
+// The walk over such a family.
+fn each_walk(flags: &[u8; 1024], labels: &[u32; 1024], gray: bool, n: u16, k: u16) -> Walk
+    requires { ⌜ (k ≤ n) × (n ≤ 10) ⌝ }
+    requires { ⌜ (gray ≡ true → k < n) ⌝ }
+    requires { ⌜ (gray ≡ true → now labels ≡ labelTable) ⌝ }
+    ensures { λ r. ⌜ r ≡ firstFree (isFree (flagged (now (flags .entry)))) (each gray n k) 0 ⌝ }
+{
+    let count = each_count(gray, n, k);
+    let mut tried: u16 = 0;
+    let mut alpha: u16 = 0;
+    'walk: loop {
+        if count <= alpha {
+            break 'walk Walk::NoneFree(tried);
+        }
+        let m = each_member(labels, gray, n, k, alpha);
+        tried += 1;
+        if free(flags, m, k) {
+            break 'walk Walk::Found(m, tried);
+        }
+        alpha += 1;
+    }
+}
+
+// Buddy: "stars are the lowest k bits. Ascending by lowest label."
+pub fn buddy_walk(flags: &[u8; 1024], n: u16, k: u16) -> Walk
+    requires { ⌜ (k ≤ n) × (n ≤ 10) ⌝ }
+    ensures { λ r. ⌜ r ≡ firstFree (isFree (flagged (now (flags .entry)))) (buddy n k) 0 ⌝ }
+{
+    let none = [0; 1024];
+    each_walk(flags, &none, false, n, k)
+}
+
+// Gray: by position, and "At k = n there is one member", buddy's.
+pub fn gray_walk(flags: &[u8; 1024], n: u16, k: u16) -> Walk
+    requires { ⌜ (k ≤ n) × (n ≤ 10) ⌝ }
+    ensures { λ r. ⌜ r ≡ firstFree (isFree (flagged (now (flags .entry)))) (gray n k) 0 ⌝ }
+{
+    if k == n {
+        buddy_walk(flags, n, k)
+    } else {
+        let labels = gray::labels();
+        each_walk(flags, &labels, true, n, k)
+    }
+}
+
+// The block that the members of one α share: its stars are the top d of n bits and the bottom l; the digits between stand as α.
+fn tree_block(n: u16, d: u16, l: u16, alpha: u16) -> Subcube
+    requires { ⌜ (d ≤ n) × (n ≤ 10) ⌝ }
+    requires { ⌜ Inside (treeBlock n d l alpha) ⌝ }
+    ensures { λ r. ⌜ r ≡ treeBlock n d l alpha ⌝ }
+{
+    let unit = pow2(l);
+    let top = (pow2(d) - 1) * pow2(n - d);
+    Subcube {
+        low: Label(alpha * unit),
+        stars: unit - 1 + top,
+    }
+}
+
+// The member of one star more, the digit at place p: it is this block and the one at α + 2^p.
+fn tree_member(n: u16, d: u16, l: u16, alpha: u16, p: u16) -> Subcube
+    requires { ⌜ (d ≤ n) × (n ≤ 10) ⌝ }
+    requires { ⌜ Inside (treeMember n d l alpha p) ⌝ }
+    ensures { λ r. ⌜ r ≡ treeMember n d l alpha p ⌝ }
+{
+    let lower = tree_block(n, d, l, alpha);
+    Subcube {
+        low: Label(lower.low.0),
+        stars: lower.stars + pow2(l + p),
+    }
+}
+
+// How many digits of α are 0, of c from place p on: so many members share the block at α.
+fn zero_digits(alpha: u16, c: u16, p: u16) -> u16
+    requires { ⌜ (alpha < 2 ^ (c + p)) × (p < 16) ⌝ }
+    ensures { λ r. ⌜ r ≡ zeroDigits alpha c p ⌝ }
+{
+    let ones = u16::count_ones(alpha >> p) as u16;
+    c - ones
+}
+
+// Tree: "The least α, and for it the least p, with a free member ends the walk." At k = 0 it is buddy's.
+pub fn tree_walk(flags: &[u8; 1024], n: u16, k: u16) -> Walk
+    requires { ⌜ (k ≤ n) × (n ≤ 10) ⌝ }
+    ensures { λ r. ⌜ r ≡ firstFree (isFree (flagged (now (flags .entry)))) (tree n k) 0 ⌝ }
+{
+    if k == 0 {
+        return buddy_walk(flags, n, 0);
+    }
+    let low = k - 1;
+    let digits = n - low;
+    let values = pow2(digits);
+    let mut tried: u16 = 0;
+    let mut alpha: u16 = 0; // the least α
+    'walk: loop {
+        if values <= alpha {
+            break 'walk Walk::NoneFree(tried);
+        }
+        let zeros = zero_digits(alpha, digits, 0);
+        // Where the block is not free, no member that shares it is.
+        if 0 < zeros && free(flags, tree_block(n, 0, low, alpha), low) {
+            let mut p: u16 = 0; // and for it the least p
+            while p < digits {
+                if digit(alpha, p) == 0 {
+                    tried += 1;
+                    if free(flags, tree_block(n, 0, low, alpha + pow2(p)), low) {
+                        break 'walk Walk::Found(tree_member(n, 0, low, alpha, p), tried);
+                    }
+                }
+                p += 1;
+            }
+        } else {
+            tried += zeros;
+        }
+        alpha += 1;
+    }
+}
+
+// What extended has beyond the tree's members, "by α, by d from 1, by p from 1", after `before` were tried.
+fn more_walk(flags: &[u8; 1024], n: u16, k: u16, before: u16) -> Walk
+    requires { ⌜ (1 ≤ k) × (k ≤ n) × (n ≤ 10) ⌝ }
+    requires { ⌜ Stands (flagged (now flags)) (extended n k) (more n (k - 1)) before ⌝ }
+    ensures { λ r. ⌜ r ≡ firstFree (isFree (flagged (now (flags .entry)))) (extended n k) 0 ⌝ }
+{
+    let low = k - 1;
+    let digits = n - low;
+    let alphas = pow2(digits);
+    let mut tried = before;
+    let mut alpha: u16 = 0; // by α
+    'walk: loop {
+        if alphas <= alpha {
+            break 'walk Walk::NoneFree(tried);
+        }
+        let zeros = zero_digits(alpha, digits - 1, 1);
+        let mut d: u16 = 1; // by d from 1
+        while d < k {
+            let l = low - d;
+            if 0 < zeros && free(flags, tree_block(n, d, l, alpha), low) {
+                let mut p: u16 = 1; // by p from 1
+                while p < digits {
+                    if digit(alpha, p) == 0 {
+                        tried += 1;
+                        if free(flags, tree_block(n, d, l, alpha + pow2(p)), low) {
+                            break 'walk Walk::Found(tree_member(n, d, l, alpha, p), tried);
+                        }
+                    }
+                    p += 1;
+                }
+            } else {
+                tried += zeros;
+            }
+            d += 1;
+        }
+        alpha += 1;
+    }
+}
+
+// Extended: "First the tree's members", then the others, counted on.
+pub fn extended_walk(flags: &[u8; 1024], n: u16, k: u16) -> Walk
+    requires { ⌜ (k ≤ n) × (n ≤ 10) ⌝ }
+    ensures { λ r. ⌜ r ≡ firstFree (isFree (flagged (now (flags .entry)))) (extended n k) 0 ⌝ }
+{
+    let first = tree_walk(flags, n, k);
+    if k == 0 {
+        return first;
+    }
+    let Walk::NoneFree(tried) = first else {
+        return first;
+    };
+    more_walk(flags, n, k, tried)
+}
+
+// What a strategy chooses. No strategy above 3 has a member.
+pub fn choose(flags: &[u8; 1024], strategy: u8, n: u16, k: u16) -> Walk
+    requires { ⌜ (k ≤ n) × (n ≤ 10) ⌝ }
+    ensures { λ r. ⌜ r ≡ choice strategy n k (flagged (now (flags .entry))) ⌝ }
+{
+    match strategy {
+        0 => buddy_walk(flags, n, k),
+        1 => gray_walk(flags, n, k),
+        2 => tree_walk(flags, n, k),
+        3 => extended_walk(flags, n, k),
+        _ => Walk::NoneFree(0),
+    }
+}
