@@ -138,18 +138,21 @@ entered : (m : Subcube) (ms : List Subcube) → In m ms → 0 < length ms
 entered m [] i = absurd i
 entered m (x ∷ ms) i = omega arith
 
--- a walk that comes to those of c places from a on
-module _ {n k d l α : ℕ} (R : Row n k d l α) (c a : ℕ) {f : ℕ → Bool} {family rest : List Subcube} {tried : ℕ} (s : Stands f family rest tried) (rest′ : List Subcube)
-    (e : rest ≡ places n d l α c a ++ rest′) where
-  pub counts-row : tried + zeroDigits α c a ≤ length family
-  counts-row = rw (length-places n d l α c a) at (counts-all s (places n d l α c a) rest′ e)
+-- a walk that comes to those of c places from a on, t of them
+module _ {n k d l α : ℕ} (R : Row n k d l α) (c a : ℕ) {t : ℕ} (u : t ≡ zeroDigits α c a) {f : ℕ → Bool} {family rest : List Subcube} {tried : ℕ}
+    (s : Stands f family rest tried) (rest′ : List Subcube) (e : rest ≡ places n d l α c a ++ rest′) where
+  many : length (places n d l α c a) ≡ t
+  many = length-places n d l α c a ∙ sym u
+
+  pub counts-row : tried + t ≤ length family
+  counts-row = rw many at (counts-all s (places n d l α c a) rest′ e)
 
   -- there is none, or the block is not free, and so none is
-  pub misses-row : a + c ≤ n - (k - 1) → (0 < zeroDigits α c a → isFree f (treeBlock n d l α) ≡ false) → Stands f family rest′ (tried + zeroDigits α c a)
-  misses-row q z = rw (length-places n d l α c a) at (misses-all s (places n d l α c a) rest′ e one)
+  pub misses-row : a + c ≤ n - (k - 1) → (0 < t → isFree f (treeBlock n d l α) ≡ false) → Stands f family rest′ (tried + t)
+  misses-row q z = rw many at (misses-all s (places n d l α c a) rest′ e one)
     where
       one : (m : Subcube) → In m (places n d l α c a) → isFree f m ≡ false
       one m i =
           let o = in-over (λ p. only (clear α p) (treeMember n d l α p)) c a m i in
           ap (isFree f) (in-only (clear α (o .0)) (treeMember n d l α (o .0)) m (o .3) .1)
-          ∙ halves R f (o .0) false (omega arith) (z (rw (length-places n d l α c a) at (entered m (places n d l α c a) i)))
+          ∙ halves R f (o .0) false (omega arith) (z (rw many at (entered m (places n d l α c a) i)))

@@ -183,8 +183,7 @@ add-tried-2 c =
     let row = c .before in
     omega (
       arith,
-      row .before .before .zero-digits .ensures,
-      counts-row (row-at row) _ _ (row .before .loop .inv .0) _ (left-next _ _ _ _ (row .loop-test .taken)),
+      counts-row (row-at row) _ _ (row .before .before .zero-digits .ensures) (row .before .loop .inv .0) _ (left-next _ _ _ _ (row .loop-test .taken)),
       extended-few (start row .args .n) (start row .args .k) (omega arith) (omega arith) (omega arith),
     )
 
@@ -199,8 +198,8 @@ loop-again c = (
   ⊎-elim
       (λ w. rw (w .6) (stays (w .4 .inv .0) (left-done _ _ _ _ (w .5 .left))))
       (λ w.
-      rw (w .1, c .before .before .before .zero-digits .ensures)
-      (misses-row (row-at (c .before)) _ _ (c .before .before .loop .inv .0) _ (left-next _ _ _ _ (c .before .loop-test .taken)) (omega arith)
+      rw (w .1)
+      (misses-row (row-at (c .before)) _ _ (c .before .before .before .zero-digits .ensures) (c .before .before .loop .inv .0) _ (left-next _ _ _ _ (c .before .loop-test .taken)) (omega arith)
       (λ h. ⊎-elim (λ v. told _ (v .2 .ensures) (v .1 .ensures) (v .3 .left)) (λ v. absurd (omega arith)) (w .0 .came))))
       (c .if2 .came),
   omega arith,

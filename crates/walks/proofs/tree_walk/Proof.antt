@@ -160,8 +160,7 @@ add-tried-2 c =
     let row = c .before .before in
     omega (
       arith,
-      c .before .zero-digits .ensures,
-      counts-row (row-at row) _ _ (row .before .walk .inv .0) _ (left-next _ _ _ _ (row .if2 .left)),
+      counts-row (row-at row) _ _ (c .before .zero-digits .ensures) (row .before .walk .inv .0) _ (left-next _ _ _ _ (row .if2 .left)),
       tree-few (start row .args .n) (start row .args .k) (row .before .before .before .if1 .left) (omega arith) (omega arith),
     )
 
@@ -176,8 +175,8 @@ walk-again c = (
   ⊎-elim
       (λ w. rw (w .6) (stays (w .4 .inv .0) (left-done _ _ _ _ (w .5 .left))))
       (λ w.
-      rw (w .1, c .before .zero-digits .ensures)
-      (misses-row (row-at (c .before .before)) _ _ (c .before .before .before .walk .inv .0) _ (left-next _ _ _ _ (c .before .before .if2 .left)) (omega arith)
+      rw (w .1)
+      (misses-row (row-at (c .before .before)) _ _ (c .before .zero-digits .ensures) (c .before .before .before .walk .inv .0) _ (left-next _ _ _ _ (c .before .before .if2 .left)) (omega arith)
       (λ h. ⊎-elim (λ v. told _ (v .2 .ensures) (v .1 .ensures) (v .3 .left)) (λ v. absurd (omega arith)) (w .0 .came))))
       (c .if3 .came),
   omega arith,

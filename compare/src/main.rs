@@ -1,0 +1,90 @@
+//! Random lists of calls to the proved library and to the second program:
+//! after every call the number, every byte of the record and every byte of
+//! the reply are compared. `cube-compare [CALLS [SEED]]`.
+
+mod input;
+mod pair;
+mod proved;
+
+use cube_reference::record::SIZE;
+use cube_reference::rng::Rng;
+
+use pair::Pair;
+
+const CALLS: u64 = 200_000;
+const SEED: u64 = 1;
+
+fn main() {
+    let mut words = std::env::args().skip(1).map(|w| w.parse().expect("a number"));
+    let calls = words.next().unwrap_or(CALLS);
+    let first = words.next().unwrap_or(SEED);
+    let (mut made, mut seed) = (0, first);
+    let mut seen = [0u64; 15];
+    while made < calls {
+        match list(seed, &mut seen) {
+            Ok(count) => made += count,
+            Err(what) => {
+                println!("seed {seed}: {what}");
+                std::process::exit(1);
+            }
+        }
+        seed += 1;
+    }
+    println!(
+        "{made} calls of {} lists from seed {first} compared, no difference; by number {seen:?}",
+        seed - first
+    );
+    if made >= CALLS && seen.iter().any(|&count| count < 20) {
+        println!("some number was met under 20 times");
+        std::process::exit(1);
+    }
+}
+
+/// One list of calls; the seed's remainder by 11 is n. Two lists of five start
+/// at a record that set-up did not leave, one of ten at a damaged one.
+fn list(seed: u64, seen: &mut [u64; 15]) -> Result<u64, String> {
+    let n = (seed % 11) as u32;
+    let rng = &mut Rng::new(seed ^ 0x5ca1_ab1e);
+    let mut pair = start(rng, n)?;
+    let frames = input::frames(seed, 60 + u64::from(rng.below(400)));
+    for (place, frame) in frames.iter().enumerate() {
+        let frame = input::bent(rng, frame);
+        let reply = input::reply(rng);
+        let number = pair.call(&frame, &reply).map_err(|what| {
+            format!(
+                "call {place}, frame {:02x?}, reply of {}: {what}",
+                &frame[..frame.len().min(24)],
+                reply.len()
+            )
+        })?;
+        seen[number as usize] += 1;
+    }
+    Ok(frames.len() as u64)
+}
+
+fn start(rng: &mut Rng, n: u32) -> Result<Pair, String> {
+    match rng.below(10) {
+        0 => {
+            let record = input::valid_record(rng, n);
+            Ok(Pair::new(input::damaged(rng, record)))
+        }
+        1..5 => Ok(Pair::new(input::valid_record(rng, n))),
+        _ => fresh(rng, n),
+    }
+}
+
+/// Set-up on any buffer: refused ones first, which write nothing.
+fn fresh(rng: &mut Rng, n: u32) -> Result<Pair, String> {
+    let above = rng.pick(&[11, 12, 256, 266, 65546, u32::MAX]);
+    let mut wrong = Pair::new(input::bytes(rng, SIZE + 1));
+    set_up(&mut wrong, n)?;
+    set_up(&mut wrong, above)?;
+    let mut pair = Pair::new(input::bytes(rng, SIZE));
+    set_up(&mut pair, above)?;
+    set_up(&mut pair, n)?;
+    Ok(pair)
+}
+
+fn set_up(pair: &mut Pair, n: u32) -> Result<u32, String> {
+    pair.setup(n).map_err(|what| format!("set-up of {n}: {what}"))
+}

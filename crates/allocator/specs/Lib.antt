@@ -1,0 +1,6 @@
+-- What the six calls do to a state.
+pub mod States
+pub mod Valid
+pub mod Acts
+pub mod Holders
+pub mod Tried

@@ -1,0 +1,116 @@
+-- A call on the bytes of a state is answered what the history says, and leaves the bytes of the state that the history goes on with. Assumes nothing.
+use mathlib.Core.Path.{_≡_, refl, ap, _∙_, subst}
+use mathlib.Core.Logic.{_⊎_, inl, inr, ⊎-elim}
+use mathlib.Core.Bool.{true, false, cond}
+use mathlib.Core.List.{List}
+use mathlib.Core.Option.{Option}
+use Prim.Native.Nat.{ℕ, _≤_}
+use native.Mathlib.Omega.{arith}
+use borrow.Author.Tests.{eq-eqb, ne-eqb}
+use lib.Dec.{eqb, ltb}
+use lib.ListN.{length}
+use Rattle.hypercube.proofs.Tests.{cases}
+use Rattle.history.specs.Calls.{kind}
+use Rattle.history.specs.Account.{History}
+use Rattle.history.specs.Verdicts.{Verdict, refused, stepBy, verdictBy, step, verdict}
+use Rattle.history.specs.Claims.{Accepted, Bounded}
+use Rattle.allocator.specs.declared.State.{State}
+use Rattle.allocator.specs.declared.Step.{Step}
+use Rattle.allocator.specs.Acts.{numberOf}
+use Rattle.allocator.proofs.Valid.{Valid, means-valid}
+use Rattle.record.specs.Layout.{encode, validRecord}
+use Rattle.record.proofs.Round.{Sized, decode-encode, valid-encode}
+use Rattle.frames.specs.Parse.{parsed}
+use Rattle.cube.specs.Called.{stepOf, stepOn, callNumber, callRecord, callReply}
+use Rattle.cube.specs.Run.{Exchange, fed, returns, replies}
+use Rattle.cube.proofs.Tested.{rung, frameTests, cause-tested}
+use Rattle.cube.proofs.View.{view}
+use Rattle.cube.proofs.Acts.{said, Does}
+use Rattle.cube.proofs.Framed.{does}
+use Rattle.cube.proofs.Heard.{Plain, accepted-zero, number-said, plain-said, reply-said}
+
+-- the bytes r are those of a state that the history h is read from
+pub record Stands (n : ℕ) (h : History) (r : List ℕ) : Type 0 where
+  pub state : State
+  pub bytes : r ≡ encode state
+  pub sized : Sized state
+  pub dimension : state .n ≡ n
+  pub viewed : view state ≡ h
+
+-- the call e on the bytes r is answered v, and leaves bytes of the history h
+pub record Answers (n : ℕ) (v : Verdict) (h : History) (e : Exchange) (r : List ℕ) : Type 0 where
+  pub plain : Plain v
+  pub returned : callNumber r (e .frame) (e .buffer) ≡ returns v
+  pub replied : callReply r (e .frame) (e .buffer) ≡ replies v (e .buffer)
+  pub next : Stands n h (callRecord r (e .frame) (e .buffer))
+
+module _ (s : State) (z : Sized s) (w : Valid s) (e : Exchange) where
+  -- the record passes refusal 1's test
+  passes : validRecord (encode s) ≡ true
+  passes = valid-encode s z ∙ means-valid s (z .directions) .shows w
+
+  -- a reply buffer under 12 bytes
+  short : ltb (length (e .buffer)) 12 ≡ true → Answers (s .n) (refused 2 0) (view s) e (encode s)
+  unfolding callNumber callReply callRecord
+  short l = record {
+    plain = (omega arith, λ q. refl);
+    returned = rw (passes, l);
+    replied = rw (passes, l);
+    next = record { state = s; bytes = rw (passes, l); sized = z; dimension = refl; viewed = refl };
+  }
+
+  -- with room: the first cause from row 3 on, and what the frame does
+  abbrev first : Option ℕ
+  first = frameTests (s .n) (view s) (fed e) (kind (fed e))
+
+  long : ltb (length (e .buffer)) 12 ≡ false → Answers (s .n) (verdictBy (s .n) first (view s) (fed e)) (stepBy (s .n) first (view s) (fed e)) e (encode s)
+  unfolding callNumber callReply callRecord stepOn
+  long l = record {
+    plain = subst Plain (D .told) (plain-said (t .reply) end);
+    returned = rw (passes, l, decode-encode s z) (number-said (t .reply) ∙ ap returns (D .told));
+    replied = rw (passes, l, decode-encode s z) (reply-said (t .reply) (e .buffer) end ∙ ap (λ (v : Verdict). replies v (e .buffer)) (D .told));
+    next = record {
+      state = t .state;
+      bytes = rw (passes, l, decode-encode s z) (stored (D .ends));
+      sized = D .sized;
+      dimension = D .same-n;
+      viewed = D .stands;
+    };
+  }
+    where
+      t : Step
+      t = stepOf s (parsed (e .frame))
+
+      D : Does s (fed e) t first
+      D = does s z w (fed e)
+
+      end : Accepted (said (t .reply)) ⊎ (3 ≤ numberOf (t .reply))
+      end = ⊎-elim inl (λ q. inr (q .0)) (D .ends)
+
+      stored : Accepted (said (t .reply)) ⊎ ((3 ≤ numberOf (t .reply)) × (t .state ≡ s))
+          → cond (eqb (numberOf (t .reply)) 0) (encode (t .state)) (encode s) ≡ encode (t .state)
+      stored (inl a) = rw (eq-eqb (numberOf (t .reply)) 0 (number-said (t .reply) ∙ accepted-zero (said (t .reply)) a))
+      stored (inr q) = rw (ne-eqb (numberOf (t .reply)) 0 (λ k. omega (arith, q .0)), q .1)
+
+  on-state : Answers (s .n) (verdict (s .n) (view s) (fed e)) (step (s .n) (view s) (fed e)) e (encode s)
+  unfolding verdict step rung
+  on-state =
+      rw (cause-tested (s .n) (view s) (fed e)) (cases (ltb (length (e .buffer)) 12) (λ l. rw l (short l)) (λ l. rw l (long l)))
+
+-- a history within its bounds is read from valid states only
+valid-of : (s : State) → s .n ≤ 10 → Bounded (s .n) (view s) → Valid s
+valid-of s small B = record {
+  small = small;
+  permutes = B .permutes;
+  conditions = λ x l. B .conditions x;
+  no-conditions = λ x g l. B .no-conditions x g;
+  no-holders = λ x g l. B .no-holders x g;
+}
+
+pub valid-stands : {n : ℕ} {h : History} {r : List ℕ} → n ≤ 10 → Bounded n h → (S : Stands n h r) → Valid (S .state)
+valid-stands small B S = valid-of (S .state) (rw (S .dimension) small) (rw (S .dimension, S .viewed) B)
+
+pub answers : (n : ℕ) (h : History) (r : List ℕ) → n ≤ 10 → Bounded n h → Stands n h r → (e : Exchange)
+    → Answers n (verdict n h (fed e)) (step n h (fed e)) e r
+answers n h r small B S e =
+    rw (S .bytes, ← S .viewed, ← S .dimension) (on-state (S .state) (S .sized) (valid-stands small B S) e)

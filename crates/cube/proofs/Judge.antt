@@ -1,0 +1,64 @@
+-- A call that is answered with its verdict's number and bytes is answered right. Assumes nothing.
+use mathlib.Core.Path.{_≡_, sym, ap, _∙_}
+use mathlib.Core.Logic.{_≢_}
+use mathlib.Core.List.{List}
+use Prim.Native.Nat.{ℕ}
+use native.Mathlib.Omega.{arith}
+use borrow.Author.Tests.{ne-eqb}
+use Rattle.history.specs.Account.{History}
+use Rattle.history.specs.Causes.{First, causes}
+use Rattle.history.specs.Verdicts.{Verdict, granted, refused, done, step, verdict}
+use Rattle.history.specs.Claims.{Accepted}
+use Rattle.history.specs.Claims as claims
+use Rattle.cube.specs.Called.{callNumber, callRecord, callReply}
+use Rattle.cube.specs.Run.{Exchange, fed, returns, replies}
+use Rattle.cube.specs.Demand3.{Judged}
+use Rattle.cube.proofs.Heard.{Plain, accepted-zero}
+use Rattle.cube.proofs.Answers.{Answers}
+
+-- a number that is not 0 is a refusal's, and 0 is an accepted call's
+refused-is : (v : Verdict) (q : ℕ) → q ≢ 0 → returns v ≡ q → (t : ℕ) × (v ≡ refused q t)
+refused-is (granted j low stars t) q nz e = absurd (nz (sym e))
+refused-is (refused m t) q nz e = (t, ap (λ (k : ℕ). refused k t) e)
+refused-is (done v) q nz e = absurd (nz (sym e))
+
+zero-accepted : (v : Verdict) → Plain v → returns v ≡ 0 → Accepted v
+zero-accepted (granted j low stars t) w e = tt
+zero-accepted (refused m t) w e = omega (arith, w .0)
+zero-accepted (done v) w e = tt
+
+-- a refusal leaves the record
+left : (r f p : List ℕ) → callNumber r f p ≢ 0 → callRecord r f p ≡ r
+unfolding callRecord
+left r f p nz = rw (ne-eqb (callNumber r f p) 0 nz)
+
+module _ (n : ℕ) (h : History) (e : Exchange) (r : List ℕ)
+    (J : claims.Judged n h (fed e) (verdict n h (fed e))) (A : Answers n (verdict n h (fed e)) (step n h (fed e)) e r) where
+  abbrev m : ℕ
+  m = callNumber r (e .frame) (e .buffer)
+
+  abbrev v : Verdict
+  v = verdict n h (fed e)
+
+  first : (q : ℕ) → q ≢ 0 → m ≡ q → First (causes n) h (fed e) q
+  first q nz z = let s = refused-is v q nz (sym (A .returned) ∙ z) in J .only-by-first q (s .0) (s .1)
+
+  pub judged : Judged n h e m (callReply r (e .frame) (e .buffer)) r (callRecord r (e .frame) (e .buffer))
+  judged = record {
+    refused-by-first = λ q nz. (first q nz, λ f. A .returned ∙ ap returns (J .refused-by-first q f));
+    accepted-by-none = (
+      λ z. J .accepted-by-none .1 (zero-accepted v (A .plain) (sym (A .returned) ∙ z)),
+      λ f. A .returned ∙ accepted-zero v (J .accepted-by-none .0 f),
+    );
+    returned = A .returned;
+    replied = A .replied;
+    left = left r (e .frame) (e .buffer);
+    refusal = λ q f. A .replied ∙ ap (λ (u : Verdict). replies u (e .buffer)) (J .refused-by-first q f);
+    none-free = λ k f. (
+      λ z. J .none-free k f .0 (J .refused-by-first 14 (first 14 (λ q. omega arith) z)),
+      λ g. A .returned ∙ ap returns (J .none-free k f .1 g),
+    );
+    gets-first = λ k f g.
+        let G = J .gets-first k f g in
+        record { member = G .member; place = G .place; first = G .first; replied = A .replied ∙ ap (λ (u : Verdict). replies u (e .buffer)) (G .told) };
+  }

@@ -1,0 +1,51 @@
+-- Set-up and the frame call on bytes: the number returned, the record and the reply afterwards. Document 01, "When a call says no".
+use Prim.Native.Nat.{ℕ}
+use mathlib.Core.Bool.{cond}
+use mathlib.Core.Path.{_≡_}
+use mathlib.Core.List.{List}
+use lib.Dec.{eqb, ltb, leb}
+use lib.ListN.{length}
+use Rattle.allocator.specs.declared.State.{State}
+use Rattle.allocator.specs.declared.Step.{Step}
+use Rattle.allocator.specs.States.{freshState}
+use Rattle.allocator.specs.Acts.{numberOf, refuse, acted}
+use Rattle.record.specs.Layout.{encode, decode, validRecord}
+use Rattle.frames.specs.declared.Parsed.{Parsed}
+use Rattle.frames.specs.declared.Parsed.the-variants.{Known, Bad}
+use Rattle.frames.specs.Parse.{parsed}
+use Rattle.frames.specs.Answer.{frameOf, written}
+
+-- "Set-up gives 1 for a buffer that isn't 3088 bytes, before 7."
+unfoldable pub setupNumber : List ℕ → ℕ → ℕ
+setupNumber r n = cond (eqb (length r) 3088) (cond (leb n 10) 0 7) 1
+
+unfoldable pub setupRecord : List ℕ → ℕ → List ℕ
+setupRecord r n = cond (eqb (setupNumber r n) 0) (encode (freshState n)) r
+
+-- what a frame that is read does to a state; what a frame that is not read is told
+abbrev pub stepOf : State → Parsed → Step
+stepOf s (Known c) = acted s c
+stepOf s (Bad m) = refuse s m
+
+unfoldable pub stepOn : List ℕ → List ℕ → Step
+stepOn r f = stepOf (decode r) (parsed f)
+
+-- on the record r, the frame f and the reply buffer p
+unfoldable pub callNumber : List ℕ → List ℕ → List ℕ → ℕ
+callNumber r f p = cond (validRecord r) (cond (ltb (length p) 12) 2 (numberOf (stepOn r f .reply))) 1
+
+unfoldable pub callRecord : List ℕ → List ℕ → List ℕ → List ℕ
+callRecord r f p = cond (eqb (callNumber r f p) 0) (encode (stepOn r f .state)) r
+
+unfoldable pub callReply : List ℕ → List ℕ → List ℕ → List ℕ
+callReply r f p = cond (validRecord r) (cond (ltb (length p) 12) p (written (frameOf (stepOn r f .reply)) p)) p
+
+-- the contract of set-up, and of the frame call: the number, and the bytes afterwards
+pub record SetUp (r : List ℕ) (n : ℕ) (number : ℕ) (after : List ℕ) : Type 0 where
+  pub returned : number ≡ setupNumber r n
+  pub «record» : after ≡ setupRecord r n
+
+pub record Called (r f p : List ℕ) (number : ℕ) (r′ p′ : List ℕ) : Type 0 where
+  pub returned : number ≡ callNumber r f p
+  pub «record» : r′ ≡ callRecord r f p
+  pub reply : p′ ≡ callReply r f p

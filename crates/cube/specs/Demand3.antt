@@ -1,0 +1,60 @@
+-- Demand 3. Document 01: "Demand 3 is one claim about the list as a whole, and not a claim for each call."
+use Prim.Native.Nat.{ℕ, _+_, _*_, _^_, _<_, _≤_}
+use mathlib.Core.Path.{_≡_}
+use mathlib.Core.Logic.{_↔_, _≢_}
+use mathlib.Core.Bool.{true}
+use mathlib.Core.List.{List, [], _∷_}
+use lib.ListN.{length, getD}
+use Rattle.hypercube.specs.Lists.{FirstWith}
+use Rattle.hypercube.specs.Labels.{node}
+use Rattle.hypercube.specs.declared.Subcube.{Subcube}
+use Rattle.history.specs.Calls.{Call, request, kind, job, word}
+use Rattle.history.specs.Account.{History, fresh, AllFree}
+use Rattle.history.specs.Causes.{First, NoneMet, NoMemberFree, asked, earlier, causes}
+use Rattle.history.specs.Verdicts.{Verdict, granted, refused, tried, verdict}
+use Rattle.history.specs.Claims.{HeldRight}
+use Rattle.record.specs.Layout.{validRecord}
+use Rattle.cube.specs.Called.{setupNumber, setupRecord}
+use Rattle.cube.specs.Run.{Exchange, Exchanges, begin, _next_, fed, feed, returns, replies, recordAfter, number, reply, heldAt, historyAt}
+
+-- a request is replied 'granted' with its job and the lowest node, star bits and place of the first free member of its family
+pub record Gets (n : ℕ) (h : History) (e : Exchange) (p′ : List ℕ) : Type 0 where
+  pub member : Subcube
+  pub place : ℕ
+  pub first : FirstWith (AllFree h) (asked n (fed e)) member place
+  pub replied : p′ ≡ replies (granted (job (fed e)) (node (h .directions) (member .low .0)) (node (h .directions) (member .stars)) place) (e .buffer)
+
+-- the call e is answered m and p′, by the history h before it; r and r′ are the record before and after
+pub record Judged (n : ℕ) (h : History) (e : Exchange) (m : ℕ) (p′ r r′ : List ℕ) : Type 0 where
+  -- refused with the number of the first cause met and with no other; accepted exactly when none is met
+  pub refused-by-first : (q : ℕ) → q ≢ 0 → (m ≡ q) ↔ First (causes n) h (fed e) q
+  pub accepted-by-none : (m ≡ 0) ↔ NoneMet (causes n) h (fed e)
+  -- the number and the whole reply buffer are what the history says; a refusal leaves the record
+  pub returned : m ≡ returns (verdict n h (fed e))
+  pub replied : p′ ≡ replies (verdict n h (fed e)) (e .buffer)
+  pub left : m ≢ 0 → r′ ≡ r
+  -- a refusal's reply has its number and what was tried
+  pub refusal : (q : ℕ) → First (causes n) h (fed e) q → p′ ≡ replies (refused q (tried n (fed e) q)) (e .buffer)
+  -- a request that meets no earlier cause: 'none free' exactly when no member of its family is all good and unheld, otherwise the first such
+  pub none-free : kind (fed e) ≡ request → NoneMet (earlier n) h (fed e) → (m ≡ 14) ↔ NoMemberFree n h (fed e)
+  pub gets-first : kind (fed e) ≡ request → NoneMet (earlier n) h (fed e) → ¬ NoMemberFree n h (fed e) → Gets n h e p′
+
+-- the record's bytes r are the history's: "its holders and conditions are compared below 2^n and its map up to n, and entries of these beyond that
+-- stay as set-up left them", in r₀
+pub record Recorded (n : ℕ) (h : History) (r₀ r : List ℕ) : Type 0 where
+  pub whole : length r ≡ 3088
+  pub valid : validRecord r ≡ true
+  pub dimension : getD r 4 0 ≡ n
+  pub directions : (i : ℕ) → i < n → getD r (5 + i) 0 ≡ getD (h .directions) i 0
+  pub holders : (x : ℕ) → x < 2 ^ n → word r (16 + 2 * x) ≡ h .holder x
+  pub conditions : (x : ℕ) → x < 2 ^ n → getD r (2064 + x) 0 ≡ h .condition x
+  pub directions-beyond : (i : ℕ) → n ≤ i → i < 10 → getD r (5 + i) 0 ≡ getD r₀ (5 + i) 0
+  pub holders-beyond : (x : ℕ) → 2 ^ n ≤ x → x < 1024 → word r (16 + 2 * x) ≡ word r₀ (16 + 2 * x)
+  pub conditions-beyond : (x : ℕ) → 2 ^ n ≤ x → x < 1024 → getD r (2064 + x) 0 ≡ getD r₀ (2064 + x) 0
+
+-- for a cube of dimension n set up on the buffer b: every list of calls, and every call after it
+pub record Demand3 (n : ℕ) (b : List ℕ) : Type 0 where
+  pub set-up : setupNumber b n ≡ 0
+  pub calls : (es : Exchanges) (e : Exchange) → Judged n (historyAt n es) e (number n b es e) (reply n b es e) (recordAfter n b es) (recordAfter n b (es next e))
+  pub recorded : (es : Exchanges) → Recorded n (historyAt n es) (setupRecord b n) (recordAfter n b es)
+  pub held : (es : Exchanges) → HeldRight n fresh (feed es) (heldAt n b es)

@@ -1,0 +1,72 @@
+-- A list of calls on one record. Document 01, the paragraph of demand 3: "the list starts with the record as [set-up] left it. A call in it is any bytes
+-- as a frame, with any reply buffer; neither is part of the record."
+use Prim.Native.Nat.{ℕ}
+use mathlib.Core.Bool.{Bool, cond}
+use mathlib.Core.List.{List, [], _∷_}
+use lib.Dec.{eqb}
+use lib.ListN.{length}
+use Rattle.history.specs.Calls.{Call, Log, start, _then_, word}
+use Rattle.history.specs.Account.{History, fresh}
+use Rattle.history.specs.Verdicts.{Verdict, granted, refused, done, after}
+use Rattle.history.specs.Held.{Held, heldAfter}
+use Rattle.record.specs.Layout.{words}
+use Rattle.frames.specs.Answer.{written}
+use Rattle.cube.specs.Called.{setupRecord, callNumber, callRecord, callReply}
+
+pub record Exchange : Type 0 where
+  pub frame : List ℕ
+  pub buffer : List ℕ
+
+-- a list of them, first to last
+infixl 20 _next_
+pub data Exchanges : Type 0 where
+  begin : Exchanges
+  _next_ : Exchanges → Exchange → Exchanges
+
+-- what the history is fed: "n, each call's frame and the length of its reply buffer, never the record or a reply"
+abbrev pub fed : Exchange → Call
+fed e = record { frame = e .frame; room = length (e .buffer) }
+
+abbrev pub feed : Exchanges → Log
+feed begin = start
+feed (es next e) = feed es then fed e
+
+-- a verdict in bytes: what is returned, and the reply buffer p after it
+abbrev pub returns : Verdict → ℕ
+returns (granted j low stars t) = 0
+returns (refused m t) = m
+returns (done v) = 0
+
+abbrev pub replies : Verdict → List ℕ → List ℕ
+replies (granted j low stars t) p = written (words (12 ∷ 0x8001 ∷ j ∷ low ∷ stars ∷ t ∷ [])) p
+replies (refused m t) p = cond (eqb m 2) p (written (words (8 ∷ 0x8002 ∷ m ∷ t ∷ [])) p)
+replies (done v) p = written (words (6 ∷ 0x8003 ∷ v ∷ [])) p
+
+-- and read back: what the number returned and the reply's bytes say
+unfoldable pub heard : ℕ → List ℕ → Verdict
+heard number p =
+    cond (eqb number 0)
+    (cond (eqb (word p 2) 0x8001) (granted (word p 4) (word p 6) (word p 8) (word p 10)) (done (word p 4)))
+    (cond (eqb number 2) (refused 2 0) (refused number (word p 6)))
+
+module _ (n : ℕ) (b : List ℕ) where
+  -- set-up on the buffer b, then each call gets the record that the last one left
+  abbrev pub recordAfter : Exchanges → List ℕ
+  recordAfter begin = setupRecord b n
+  recordAfter (es next e) = callRecord (recordAfter es) (e .frame) (e .buffer)
+
+  -- what the call e is answered after the calls es
+  abbrev pub number : Exchanges → Exchange → ℕ
+  number es e = callNumber (recordAfter es) (e .frame) (e .buffer)
+
+  abbrev pub reply : Exchanges → Exchange → List ℕ
+  reply es e = callReply (recordAfter es) (e .frame) (e .buffer)
+
+  -- "A held subcube is the one that a job was last granted, if no release by that job was accepted since", by what was replied
+  abbrev pub heldAt : Exchanges → List Held
+  heldAt begin = []
+  heldAt (es next e) = heldAfter (feed es) (fed e) (heard (number es e) (reply es e)) (heldAt es)
+
+-- the history after the calls es on a fresh cube
+abbrev pub historyAt : ℕ → Exchanges → History
+historyAt n es = after n fresh (feed es)

@@ -1,0 +1,210 @@
+// The edges of document 01, and the causes in pairs: where two rows of the table are met at once, the first wins. Each line has the number returned
+// and the six words of the reply buffer, which held 61166 in each before the call.
+use libc::STDOUT_FILENO;
+
+// 3088 bytes of 170, which set-up does not mind.
+fn buffer() -> [u8; 3088] {
+    [170; 3088]
+}
+
+fn word(low: u8, high: u8) -> u64 {
+    low as u64 + 256 * (high as u64)
+}
+
+fn print_word(low: u8, high: u8) {
+    io::write_all(STDOUT_FILENO, b" ");
+    io::print_decimal(STDOUT_FILENO, word(low, high));
+}
+
+fn print_number(name: &[u8], number: u32) {
+    io::write_all(STDOUT_FILENO, name);
+    io::write_all(STDOUT_FILENO, b": ");
+    io::print_decimal(STDOUT_FILENO, number as u64);
+}
+
+fn set_up(name: &[u8], rec: &mut [u8], n: u32) {
+    print_number(name, cube::cube_setup(rec, n));
+    io::write_all(STDOUT_FILENO, b"\n");
+}
+
+fn print_reply(name: &[u8], number: u32, r: [u8; 12]) {
+    print_number(name, number);
+    io::write_all(STDOUT_FILENO, b",");
+    print_word(r[0], r[1]);
+    print_word(r[2], r[3]);
+    print_word(r[4], r[5]);
+    print_word(r[6], r[7]);
+    print_word(r[8], r[9]);
+    print_word(r[10], r[11]);
+    io::write_all(STDOUT_FILENO, b"\n");
+}
+
+// One frame with a reply buffer of 12 bytes.
+fn call(name: &[u8], rec: &mut [u8], frame: &[u8]) {
+    let mut reply = [238; 12];
+    let number = cube::cube_call(rec, frame, &mut reply);
+    print_reply(name, number, reply);
+}
+
+// One frame with a reply buffer of 11 bytes.
+fn call_short(name: &[u8], rec: &mut [u8], frame: &[u8]) {
+    let mut reply = [238; 11];
+    let number = cube::cube_call(rec, frame, &mut reply);
+    print_reply(
+        name,
+        number,
+        [
+            reply[0],
+            reply[1],
+            reply[2],
+            reply[3],
+            reply[4],
+            reply[5],
+            reply[6],
+            reply[7],
+            reply[8],
+            reply[9],
+            reply[10],
+            238,
+        ],
+    );
+}
+
+fn set_ups() {
+    let mut rec = buffer();
+    set_up(b"set-up of n 11", &mut rec, 11);
+    set_up(b"set-up of n 10", &mut rec, 10);
+    set_up(b"set-up of n 0", &mut rec, 0);
+    let mut short = [0; 3087];
+    set_up(b"set-up of 3087 bytes", &mut short, 10);
+    set_up(
+        b"causes 1 and 7, set-up of 3087 bytes and n 11",
+        &mut short,
+        11,
+    );
+}
+
+// n 10: nodes 1023 and 1024, k 10 and 11, jobs 65535 and 0, replies of 12 and 11 bytes.
+fn largest_nodes(rec: &mut [u8]) {
+    call(b"good 1023", rec, b"\x06\x00\x01\x01\xff\x03");
+    call(b"good 1024", rec, b"\x06\x00\x01\x01\x00\x04");
+    call_short(b"good 1023, reply of 11", rec, b"\x06\x00\x01\x01\xff\x03");
+}
+
+fn largest_jobs(rec: &mut [u8]) {
+    call(
+        b"request of k 10 by 65535",
+        rec,
+        b"\x08\x00\x01\x02\xff\xff\x0a\x00",
+    );
+    call(
+        b"request of k 11 by 65535",
+        rec,
+        b"\x08\x00\x01\x02\xff\xff\x0b\x00",
+    );
+    call(
+        b"request of k 0 by 65535",
+        rec,
+        b"\x08\x00\x01\x02\xff\xff\x00\x03",
+    );
+    call(
+        b"request of k 0 by 0",
+        rec,
+        b"\x08\x00\x01\x02\x00\x00\x00\x00",
+    );
+    call(b"release by 65535", rec, b"\x06\x00\x02\x02\xff\xff");
+    call(b"release by 0", rec, b"\x06\x00\x02\x02\x00\x00");
+}
+
+// n 1: node 0 good and held by job 7, node 1 faulty.
+fn prepare(rec: &mut [u8]) {
+    call(b"good 0", rec, b"\x06\x00\x01\x01\x00\x00");
+    call(b"fault 1", rec, b"\x06\x00\x02\x01\x01\x00");
+    call(
+        b"request of k 0 by 7",
+        rec,
+        b"\x08\x00\x01\x02\x07\x00\x00\x01",
+    );
+}
+
+fn frame_pairs(rec: &mut [u8]) {
+    call_short(b"causes 2 and 3", rec, b"\x06\x00\x01");
+    call(b"causes 3 and 4", rec, b"\x07\x00\x99\x09\x00\x00");
+    call(b"causes 3 and 5", rec, b"\x06\x00\x01\x01\x00");
+    call(b"cause 4", rec, b"\x06\x00\x01\x03\x01\x00");
+}
+
+fn job_pairs(rec: &mut [u8]) {
+    call(
+        b"causes 5 and 6",
+        rec,
+        b"\x09\x00\x01\x02\x00\x00\x00\x00\x00",
+    );
+    call(b"causes 6 and 7", rec, b"\x08\x00\x01\x02\x00\x00\x02\x00");
+    call(b"causes 6 and 11", rec, b"\x06\x00\x02\x02\x00\x00");
+}
+
+fn call_pairs(rec: &mut [u8]) {
+    call(b"causes 7 and 9", rec, b"\x08\x00\x01\x02\x08\x00\x02\x04");
+    call(b"causes 8 and 12", rec, b"\x06\x00\x03\x01\x02\x00");
+    call(b"causes 9 and 10", rec, b"\x08\x00\x01\x02\x07\x00\x00\x04");
+    call(
+        b"causes 10 and 14",
+        rec,
+        b"\x08\x00\x01\x02\x07\x00\x01\x00",
+    );
+}
+
+fn single_causes(rec: &mut [u8]) {
+    call(b"cause 11", rec, b"\x06\x00\x02\x02\x08\x00");
+    call(
+        b"cause 12, good on a faulty node",
+        rec,
+        b"\x06\x00\x01\x01\x01\x00",
+    );
+    call(
+        b"cause 12, repaired on a good node",
+        rec,
+        b"\x06\x00\x03\x01\x00\x00",
+    );
+}
+
+fn last_causes(rec: &mut [u8]) {
+    call(b"cause 13", rec, b"\x04\x00\x03\x02");
+    call(b"cause 14", rec, b"\x08\x00\x01\x02\x08\x00\x00\x03");
+    call(b"fault 0, held by 7", rec, b"\x06\x00\x02\x01\x00\x00");
+    call(b"release by 7", rec, b"\x06\x00\x02\x02\x07\x00");
+    call(b"relabel", rec, b"\x04\x00\x03\x02");
+}
+
+// 3088 bytes that are no record.
+fn damaged(rec: &mut [u8]) {
+    call_short(b"causes 1 and 2", rec, b"\x06\x00\x01\x01\x00\x00");
+    call(b"cause 1", rec, b"\x06\x00\x01\x01\x00\x00");
+}
+
+fn largest() {
+    let mut rec = buffer();
+    cube::cube_setup(&mut rec, 10);
+    largest_nodes(&mut rec);
+    largest_jobs(&mut rec);
+}
+
+fn pairs() {
+    let mut rec = buffer();
+    cube::cube_setup(&mut rec, 1);
+    prepare(&mut rec);
+    frame_pairs(&mut rec);
+    job_pairs(&mut rec);
+    call_pairs(&mut rec);
+    single_causes(&mut rec);
+    last_causes(&mut rec);
+    let mut none = [0; 3088];
+    damaged(&mut none);
+}
+
+fn main() {
+    set_ups();
+    largest();
+    pairs();
+}

@@ -1,0 +1,3 @@
+-- The laws of frames and replies.
+pub mod Parsing
+pub mod Writing

@@ -1,0 +1,85 @@
+-- The test of the nodes by the highest bytes of three parts of a record. Assumes nothing.
+use Prim.Native.Nat.{ℕ, _+_, _*_, _-_, _<_, _≤_}
+use mathlib.Core.Logic.{_↔_}
+use mathlib.Core.Path.{_≡_, refl}
+use mathlib.Core.Bool.{Bool, true, false, _&&_}
+use mathlib.Core.List.{List}
+use native.Mathlib.Omega.{arith}
+use borrow.Author.Tests.{eq-eqb, ne-eqb, le-leb, lt-leb}
+use lib.Dec.{eqb, leb}
+use lib.ListN.{length, getD}
+use Rattle.hypercube.proofs.Tests.{Means, means-eq, means-le, means-and, same-test}
+use Rattle.history.specs.Calls.{word}
+use Rattle.allocator.specs.Valid.{nodesRight}
+use Rattle.allocator.proofs.Valid.{means-same, means-nodes}
+use Rattle.record.specs.Highest.{highestOf}
+use Rattle.record.specs.Layout.{decode}
+use Rattle.record.proofs.Round.{decode-holder, decode-condition, each-holder}
+use Rattle.record.proofs.Maximum.{part, part-within}
+
+-- N nodes, of 1024; the highest byte of the conditions below N, of those from N up, and of the holders from N up
+module _ (r : List ℕ) (N : ℕ) (long : length r ≡ 3088) (few : N ≤ 1024) where
+  abbrev pub conditions-below : ℕ
+  conditions-below = highestOf (part r 2064 (2064 + N))
+
+  abbrev pub conditions-beyond : ℕ
+  conditions-beyond = highestOf (part r (2064 + N) 3088)
+
+  abbrev pub holders-beyond : ℕ
+  holders-beyond = highestOf (part r (16 + 2 * N) 2064)
+
+  -- every byte from place a up to place e is 0
+  means-none : (a e : ℕ) → e ≤ 3088 → Means (eqb (highestOf (part r a e)) 0) ((i : ℕ) → a ≤ i → i < e → getD r i 0 ≤ 0)
+  means-none a e h =
+      let w = part-within r a e (omega arith) 0 in
+      means-same (means-eq (highestOf (part r a e)) 0) (λ z. w .0 (omega arith), λ f. omega (arith, w .1 f))
+
+  means-below : Means (leb conditions-below 2) ((i : ℕ) → 2064 ≤ i → i < 2064 + N → getD r i 0 ≤ 2)
+  means-below = means-same (means-le conditions-below 2) (part-within r 2064 (2064 + N) (omega arith) 2)
+
+  -- a byte among the conditions, by its node
+  at-condition : (P : ℕ → Type 0) (i : ℕ) → i < 3088 → 2064 ≤ i → P (getD (decode r .conditions) (i - 2064) 0) → P (getD r i 0)
+  at-condition P i b a p =
+      let e : 2064 + (i - 2064) ≡ i = omega arith in
+      rw e at (rw (decode-condition r (i - 2064) (omega arith)) at p)
+
+  pub three-parts : (leb conditions-below 2 && (eqb conditions-beyond 0 && eqb holders-beyond 0)) ≡ nodesRight (decode r .holders) (decode r .conditions) N
+  unfolding word
+  three-parts =
+      same-test (means-and means-below (means-and (means-none (2064 + N) 3088 (omega arith)) (means-none (16 + 2 * N) 2064 (omega arith))))
+      (means-nodes (decode r .holders) (decode r .conditions) N) (
+        λ p x l. (
+          λ b. rw (decode-condition r x l) (p .0 (2064 + x) (omega arith) (omega arith)),
+          λ g. (
+            omega (
+              arith,
+              decode-holder r x l,
+              p .1 .1 (16 + 2 * x) (omega arith) (omega arith),
+              p .1 .1 (16 + 2 * x + 1) (omega arith) (omega arith),
+            ),
+            omega (arith, decode-condition r x l, p .1 .0 (2064 + x) (omega arith) (omega arith)),
+          ),
+        ),
+        λ q. (
+          λ i a b. at-condition (λ y. y ≤ 2) i (omega arith) a (q (i - 2064) (omega arith) .0 (omega arith)),
+          (
+            λ i a b. omega (arith, at-condition (λ y. y ≡ 0) i (omega arith) (omega arith) (q (i - 2064) (omega arith) .1 (omega arith) .1)),
+            λ i a b. each-holder (λ k. getD r k 0 ≤ 0) i (omega arith) b (λ x l g.
+                let z = decode-holder r x l in
+                let e = q x l .1 (omega arith) .0 in
+                (omega arith, omega arith)),
+          ),
+        ),
+      )
+
+  -- ---- the test, way out by way out, from what was found of the parts
+
+  pub not-below : {m : ℕ} → m ≡ conditions-below → 2 < m → false ≡ nodesRight (decode r .holders) (decode r .conditions) N
+  not-below {m} e h = rw (← three-parts, ← e, lt-leb m 2 h)
+
+  module _ {m k : ℕ} (e : m ≡ conditions-below) (h : m ≤ 2) (f : k ≡ conditions-beyond) where
+    pub not-beyond : (k ≡ 0 → ⊥) → false ≡ nodesRight (decode r .holders) (decode r .conditions) N
+    not-beyond p = rw (← three-parts, ← e, ← f, le-leb m 2 h, ne-eqb k 0 p)
+
+    pub by-holders : {t : ℕ} → k ≡ 0 → t ≡ holders-beyond → eqb t 0 ≡ nodesRight (decode r .holders) (decode r .conditions) N
+    by-holders {t} z g = rw (← three-parts, ← e, ← f, ← g, le-leb m 2 h, eq-eqb k 0 z)

@@ -1,0 +1,268 @@
+-- A state and its record say the same: decode undoes encode where the arrays have their lengths, and encode undoes decode on 3088 bytes whose head is right.
+-- Assumes nothing.
+use Prim.Native.Nat.{ℕ, zero, suc, _+_, _*_, _%_, _/_, _-_, _<_, _≤_}
+use mathlib.Core.Path.{_≡_, refl, sym, ap, subst, _∙_}
+use mathlib.Core.Logic.{⊎-elim}
+use mathlib.Core.Bool.{Bool, true}
+use mathlib.Core.List.{List, [], _∷_, _++_, map}
+use native.Mathlib.Omega.{arith}
+use borrow.Author.Tests.{eq-eqb}
+use lib.ListN.{length, getD, length-append, length-map, List·getD-append}
+use lib.Seq.{ext-getD, getD-append-add}
+use Rattle.hypercube.specs.Lists.{over, from}
+use Rattle.hypercube.proofs.Bits.{lt-or}
+use Rattle.hypercube.proofs.Lists.{length-from}
+use Rattle.hypercube.proofs.Tests.{Means, means-eq, means-and}
+use Rattle.history.specs.Calls.{word}
+use Rattle.allocator.specs.declared.State.{State}
+use Rattle.allocator.specs.Valid.{valid}
+use Rattle.record.specs.Layout.{words, encode, decode, headRight, validRecord}
+
+-- ---- the list f 0, f 1, .., c of them
+
+pub length-each : (f : ℕ → ℕ) (c : ℕ) → length (map f (from 0 c)) ≡ c
+length-each f c = length-map (from 0 c) f ∙ length-from 0 c
+
+each-from : (f : ℕ → ℕ) (a c i : ℕ) → i < c → getD (map f (from a c)) i 0 ≡ f (a + i)
+unfolding over
+each-from f a zero i l = absurd (omega arith)
+each-from f a (suc c) zero l = ap f (omega arith)
+each-from f a (suc c) (suc i) l = each-from f (a + 1) c i (omega arith) ∙ ap f (omega arith)
+
+pub getD-each : (f : ℕ → ℕ) (c i : ℕ) → i < c → getD (map f (from 0 c)) i 0 ≡ f i
+getD-each f c i l = each-from f 0 c i l ∙ ap f (omega arith)
+
+-- a list is the one of its entries
+pub is-each : (f : ℕ → ℕ) (c : ℕ) (l : List ℕ) → length l ≡ c → ((i : ℕ) → i < c → getD l i 0 ≡ f i) → l ≡ map f (from 0 c)
+is-each f c l e h =
+    ext-getD 0 l (map f (from 0 c)) (e ∙ sym (length-each f c)) (λ i q. let b : i < c = omega arith in h i b ∙ sym (getD-each f c i b))
+
+-- ---- two bytes of each number
+
+pub length-words : (l : List ℕ) → length (words l) ≡ 2 * length l
+unfolding words
+length-words [] = refl
+length-words (x ∷ xs) = omega (arith, length-words xs)
+
+pub low-at : (l : List ℕ) (i : ℕ) → i < length l → getD (words l) (2 * i) 0 ≡ getD l i 0 % 256
+unfolding words
+low-at [] i h = absurd (omega arith)
+low-at (x ∷ xs) zero h = refl
+low-at (x ∷ xs) (suc i) h = let e : 2 * suc i ≡ suc (suc (2 * i)) = omega arith in rw e (low-at xs i (omega arith))
+
+pub high-at : (l : List ℕ) (i : ℕ) → i < length l → getD (words l) (2 * i + 1) 0 ≡ getD l i 0 / 256
+unfolding words
+high-at [] i h = absurd (omega arith)
+high-at (x ∷ xs) zero h = refl
+high-at (x ∷ xs) (suc i) h = let e : 2 * suc i + 1 ≡ suc (suc (2 * i + 1)) = omega arith in rw e (high-at xs i (omega arith))
+
+-- ---- the record of a state
+
+-- a state's arrays have their lengths, as the code's always do
+pub record Sized (s : State) : Type 0 where
+  pub directions : length (s .map) ≡ 10
+  pub holders : length (s .holders) ≡ 1024
+  pub conditions : length (s .conditions) ≡ 1024
+
+-- the entry that stands k places into the second of two lists
+past : (xs ys : List ℕ) (m k j : ℕ) → length xs ≡ m → m + k ≡ j → getD (xs ++ ys) j 0 ≡ getD ys k 0
+past xs ys m k j e q = let p : j ≡ length xs + k = omega arith in rw p (getD-append-add xs ys k 0)
+
+-- the parts of a record: its first bytes, and the rest from the map, from the zero byte and from the holders on
+abbrev first : State → List ℕ
+first s = 16 ∷ 12 ∷ 1 ∷ 0 ∷ s .n ∷ []
+
+abbrev holdersOn : State → List ℕ
+holdersOn s = words (s .holders) ++ s .conditions
+
+abbrev zeroOn : State → List ℕ
+zeroOn s = (0 ∷ []) ++ holdersOn s
+
+abbrev mapOn : State → List ℕ
+mapOn s = s .map ++ zeroOn s
+
+module _ (s : State) (z : Sized s) where
+  pub length-encode : length (encode s) ≡ 3088
+  unfolding encode
+  length-encode = simp (length-append, length-words, z .directions, z .holders, z .conditions)
+
+  pub encode-n : getD (encode s) 4 0 ≡ s .n
+  unfolding encode
+  encode-n = refl
+
+  pub encode-map : (i : ℕ) → i < 10 → getD (encode s) (5 + i) 0 ≡ getD (s .map) i 0
+  unfolding encode
+  encode-map i h = past (first s) (mapOn s) 5 i (5 + i) refl refl ∙ List·getD-append (s .map) (zeroOn s) 0 i (omega (arith, z .directions))
+
+  pub encode-zero : getD (encode s) 15 0 ≡ 0
+  unfolding encode
+  encode-zero = past (first s) (mapOn s) 5 10 15 refl refl ∙ past (s .map) (zeroOn s) 10 0 10 (z .directions) refl
+
+  -- past the head
+  rest : (k : ℕ) → getD (encode s) (16 + k) 0 ≡ getD (holdersOn s) k 0
+  unfolding encode
+  rest k =
+      past (first s) (mapOn s) 5 (11 + k) (16 + k) refl (omega arith) ∙ past (s .map) (zeroOn s) 10 (1 + k) (11 + k) (z .directions) (omega arith)
+      ∙ past (0 ∷ []) (holdersOn s) 1 k (1 + k) refl refl
+
+  pub encode-low : (x : ℕ) → x < 1024 → getD (encode s) (16 + 2 * x) 0 ≡ getD (s .holders) x 0 % 256
+  encode-low x h =
+      rest (2 * x) ∙ List·getD-append (words (s .holders)) (s .conditions) 0 (2 * x) (omega (arith, z .holders, length-words (s .holders)))
+      ∙ low-at (s .holders) x (omega (arith, z .holders))
+
+  pub encode-high : (x : ℕ) → x < 1024 → getD (encode s) (16 + 2 * x + 1) 0 ≡ getD (s .holders) x 0 / 256
+  encode-high x h =
+      (let e : 16 + 2 * x + 1 ≡ 16 + (2 * x + 1) = omega arith in rw e (rest (2 * x + 1)))
+      ∙ List·getD-append (words (s .holders)) (s .conditions) 0 (2 * x + 1) (omega (arith, z .holders, length-words (s .holders)))
+      ∙ high-at (s .holders) x (omega (arith, z .holders))
+
+  pub encode-holder : (x : ℕ) → x < 1024 → word (encode s) (16 + 2 * x) ≡ getD (s .holders) x 0
+  unfolding word
+  encode-holder x h = omega (arith, encode-low x h, encode-high x h)
+
+  pub encode-condition : (x : ℕ) → getD (encode s) (2064 + x) 0 ≡ getD (s .conditions) x 0
+  encode-condition x =
+      (let e : 2064 + x ≡ 16 + (2048 + x) = omega arith in rw e (rest (2048 + x)))
+      ∙ past (words (s .holders)) (s .conditions) 2048 x (2048 + x) (omega (arith, z .holders, length-words (s .holders))) refl
+
+  pub decode-encode : decode (encode s) ≡ s
+  unfolding decode
+  decode-encode =
+      rw (
+        encode-n,
+        ← is-each (λ i. getD (encode s) (5 + i) 0) 10 (s .map) (z .directions) (λ i h. sym (encode-map i h)),
+        ← is-each (λ x. word (encode s) (16 + 2 * x)) 1024 (s .holders) (z .holders) (λ x h. sym (encode-holder x h)),
+        ← is-each (λ x. getD (encode s) (2064 + x) 0) 1024 (s .conditions) (z .conditions) (λ x h. sym (encode-condition x)),
+      )
+
+  pub head-encode : headRight (encode s) ≡ true
+  unfolding headRight word encode
+  head-encode = rw (eq-eqb _ _ encode-zero)
+
+  pub valid-encode : validRecord (encode s) ≡ valid s
+  unfolding validRecord
+  valid-encode = rw (length-encode, head-encode, decode-encode)
+
+-- ---- the state of a record
+
+pub sized-decode : (r : List ℕ) → Sized (decode r)
+unfolding decode
+sized-decode r = record {
+  directions = length-each (λ i. getD r (5 + i) 0) 10;
+  holders = length-each (λ x. word r (16 + 2 * x)) 1024;
+  conditions = length-each (λ x. getD r (2064 + x) 0) 1024;
+}
+
+-- the state made of what was read, part by part
+pub decode-parts : (r : List ℕ) (m : ℕ) (ds hs cs : List ℕ) → m ≡ decode r .n → ds ≡ map (λ i. getD r (5 + i) 0) (from 0 10)
+    → hs ≡ map (λ x. word r (16 + 2 * x)) (from 0 1024) → cs ≡ map (λ x. getD r (2064 + x) 0) (from 0 1024)
+    → record { n = m; map = ds; holders = hs; conditions = cs } ≡ decode r
+unfolding decode
+decode-parts r m ds hs cs e d h c = rw (e, d, h, c)
+
+pub decode-map : (r : List ℕ) (i : ℕ) → i < 10 → getD (decode r .map) i 0 ≡ getD r (5 + i) 0
+unfolding decode
+decode-map r i h = getD-each (λ i. getD r (5 + i) 0) 10 i h
+
+pub decode-holder : (r : List ℕ) (x : ℕ) → x < 1024 → getD (decode r .holders) x 0 ≡ word r (16 + 2 * x)
+unfolding decode
+decode-holder r x h = getD-each (λ x. word r (16 + 2 * x)) 1024 x h
+
+pub decode-condition : (r : List ℕ) (x : ℕ) → x < 1024 → getD (decode r .conditions) x 0 ≡ getD r (2064 + x) 0
+unfolding decode
+decode-condition r x h = getD-each (λ x. getD r (2064 + x) 0) 1024 x h
+
+-- what a right head says
+pub record Head (r : List ℕ) : Type 0 where
+  pub size : word r 0 ≡ 3088
+  pub kind : word r 2 ≡ 1
+  pub zero-byte : getD r 15 0 ≡ 0
+
+pub head-says : (r : List ℕ) → headRight r ≡ true → Head r
+unfolding headRight
+head-says r e =
+    let h = means-and (means-eq (word r 0) 3088) (means-and (means-eq (word r 2) 1) (means-eq (getD r 15 0) 0)) .holds e in
+    record { size = h .0; kind = h .1 .0; zero-byte = h .1 .1 }
+
+-- what the whole test says
+pub record Right (r : List ℕ) : Type 0 where
+  pub long : length r ≡ 3088
+  pub head : headRight r ≡ true
+  pub state : valid (decode r) ≡ true
+
+pub record-says : (r : List ℕ) → validRecord r ≡ true → Right r
+unfolding validRecord
+record-says r e =
+    let h = means-and (means-eq (length r) 3088) (means-and (means-of (headRight r)) (means-of (valid (decode r)))) .holds e in
+    record { long = h .0; head = h .1 .0; state = h .1 .1 }
+  where
+    means-of : (b : Bool) → Means b (b ≡ true)
+    means-of b = record { holds = λ e. e; shows = λ e. e }
+
+-- the bytes of a word, low and high
+word-low : (r : List ℕ) (i : ℕ) → getD r i 0 < 256 → word r i % 256 ≡ getD r i 0
+unfolding word
+word-low r i b = omega arith
+
+word-high : (r : List ℕ) (i : ℕ) → getD r i 0 < 256 → word r i / 256 ≡ getD r (i + 1) 0
+unfolding word
+word-high r i b = omega arith
+
+-- a byte among the holders is the low or the high one of a holder
+pub each-holder : (P : ℕ → Type 0) (i : ℕ) → 16 ≤ i → i < 2064 → ((x : ℕ) → x < 1024 → i ≤ 16 + 2 * x + 1 → P (16 + 2 * x) × P (16 + 2 * x + 1)) → P i
+each-holder P i a b h =
+    let both = h ((i - 16) / 2) (omega arith) (omega arith) in
+    ⊎-elim (λ (e : (i - 16) % 2 < 1). subst P (omega arith) (both .0)) (λ (e : 1 ≤ (i - 16) % 2). subst P (omega arith) (both .1)) (lt-or ((i - 16) % 2) 1)
+
+-- 3088 bytes with a right head
+module _ (r : List ℕ) (long : length r ≡ 3088) (bytes : (i : ℕ) → getD r i 0 < 256) (right : headRight r ≡ true) where
+  abbrev Same : ℕ → Type 0
+  Same i = getD (encode (decode r)) i 0 ≡ getD r i 0
+
+  said : Head r
+  said = head-says r right
+
+  same-first : (i : ℕ) → i < 5 → Same i
+  unfolding encode decode
+  same-first zero h = omega (arith, ap (λ (w : ℕ). w % 256) (said .size), word-low r 0 (bytes 0))
+  same-first (suc zero) h = omega (arith, ap (λ (w : ℕ). w / 256) (said .size), word-high r 0 (bytes 0))
+  same-first (suc (suc zero)) h = omega (arith, ap (λ (w : ℕ). w % 256) (said .kind), word-low r 2 (bytes 2))
+  same-first (suc (suc (suc zero))) h = omega (arith, ap (λ (w : ℕ). w / 256) (said .kind), word-high r 2 (bytes 2))
+  same-first (suc (suc (suc (suc zero)))) h = refl
+  same-first (suc (suc (suc (suc (suc i))))) h = absurd (omega arith)
+
+  same-map : (i : ℕ) → i < 10 → Same (5 + i)
+  same-map i h = encode-map (decode r) (sized-decode r) i h ∙ decode-map r i h
+
+  same-zero : Same 15
+  same-zero = encode-zero (decode r) (sized-decode r) ∙ sym (said .zero-byte)
+
+  same-low : (x : ℕ) → x < 1024 → Same (16 + 2 * x)
+  same-low x h =
+      encode-low (decode r) (sized-decode r) x h ∙ ap (λ (w : ℕ). w % 256) (decode-holder r x h)
+      ∙ word-low r (16 + 2 * x) (bytes (16 + 2 * x))
+
+  same-high : (x : ℕ) → x < 1024 → Same (16 + 2 * x + 1)
+  same-high x h =
+      encode-high (decode r) (sized-decode r) x h ∙ ap (λ (w : ℕ). w / 256) (decode-holder r x h)
+      ∙ word-high r (16 + 2 * x) (bytes (16 + 2 * x))
+
+  same-condition : (x : ℕ) → x < 1024 → Same (2064 + x)
+  same-condition x h = encode-condition (decode r) (sized-decode r) x ∙ decode-condition r x h
+
+  same : (i : ℕ) → i < 3088 → Same i
+  same i h =
+      ⊎-elim (same-first i)
+      (λ (a : 5 ≤ i). ⊎-elim (λ (b : i < 15). subst Same (omega arith) (same-map (i - 5) (omega arith)))
+      (λ (b : 15 ≤ i). ⊎-elim (λ (d : i < 16). subst Same (omega arith) same-zero)
+      (λ (d : 16 ≤ i). ⊎-elim (λ (e : i < 2064). each-holder Same i d e (λ x l _. (same-low x l, same-high x l)))
+      (λ (e : 2064 ≤ i). subst Same (omega arith) (same-condition (i - 2064) (omega arith)))
+      (lt-or i 2064))
+      (lt-or i 16))
+      (lt-or i 15))
+      (lt-or i 5)
+
+  pub encode-decode : encode (decode r) ≡ r
+  encode-decode =
+      let e = length-encode (decode r) (sized-decode r) in
+      ext-getD 0 (encode (decode r)) r (e ∙ sym long) (λ i h. same i (omega arith))

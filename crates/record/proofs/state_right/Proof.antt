@@ -1,0 +1,65 @@
+-- `record::state_right` meets its contract: the allocator's laws, at the state that the record says. Assumes nothing.
+use Prim.Native.Nat.{ℕ, _^_}
+use borrow.Author.Needs.{needs}
+use borrow.Author.Tests.{not-true, not-false}
+use mathlib.Core.Path.{_≡_, sym, ap, ap₂, _∙_}
+use native.Mathlib.Omega.{arith}
+use Rattle.allocator.specs.Valid.{mapRight, nodesRight}
+use Rattle.allocator.proofs.Valid.{not-small, not-permuted, by-nodes}
+use Rattle.record.specs.Layout.{decode}
+use Rattle.record.proofs.state_right.Statement.{statement}
+use Rattle.record.proofs.state_right.Tie as tie
+
+abbrev start : tie.After-map-right → tie.Start
+start c = c .before .before .before .before .before .before
+
+-- what was found of the map
+map-test : (c : tie.After-map-right)
+    → mapRight (decode (start c .args .bytes .now) .map) (decode (start c .args .bytes .now) .n) ≡ c .map-right .result
+unfolding decode
+map-test c =
+    let at = c .before .before in
+    sym (c .map-right .ensures ∙ ap₂ mapRight (at .load-map .ensures) (at .before .before .dimension .ensures))
+
+dimension-requires : tie.Need-dimension-requires
+dimension-requires c κs = search needs
+
+returns : tie.Need-returns
+returns c = not-small _ (omega (arith, c .before .dimension .ensures))
+
+load-map-requires : tie.Need-load-map-requires
+load-map-requires c κs = search needs
+
+map-right-requires : tie.Need-map-right-requires
+map-right-requires c κs = search needs
+
+returns-2 : tie.Need-returns-2
+returns-2 c =
+    let at = c .before .before .before .before .before in
+    not-permuted _ (omega (arith, at .dimension .ensures)) (map-test (c .before) ∙ not-true _ (c .if2 .taken))
+
+node-count-requires : tie.Need-node-count-requires
+node-count-requires c κs = search needs
+
+nodes-right-requires : tie.Need-nodes-right-requires
+nodes-right-requires c κs = search needs
+
+returns-3 : tie.Need-returns-3
+returns-3 c =
+    let at = c .before .before .before in
+    let e = at .before .before .before .before .dimension .ensures in
+    c .nodes-right .ensures ∙ ap (nodesRight _ _) (c .before .node-count .ensures .0 ∙ ap (λ (n : ℕ). 2 ^ n) e)
+    ∙ by-nodes _ (omega (arith, e)) (map-test at ∙ not-false _ (c .before .before .if2 .left))
+
+pub state-right-spec : {M : Type 1} → statement M
+state-right-spec =
+    tie.close
+    (tie.spec
+    dimension-requires
+    returns
+    load-map-requires
+    map-right-requires
+    returns-2
+    node-count-requires
+    nodes-right-requires
+    returns-3)

@@ -1,0 +1,36 @@
+-- The record's bytes. Document 01, "Node and record": "The record is 3088 bytes, all fields little-endian: length 3088 (2 bytes), kind 0x0001 (2), n (1),
+-- the map (10 [..]), a zero byte, 1024 holders (2 each), 1024 conditions (1 each)."
+use Prim.Native.Nat.{ℕ, zero, suc, _+_, _*_, _%_, _/_}
+use mathlib.Core.Bool.{Bool, _&&_}
+use mathlib.Core.List.{List, [], _∷_, _++_, map}
+use lib.Dec.{eqb}
+use lib.ListN.{length, getD}
+use Rattle.hypercube.specs.Lists.{from}
+use Rattle.history.specs.Calls.{word}
+use Rattle.allocator.specs.declared.State.{State}
+use Rattle.allocator.specs.Valid.{valid}
+
+-- two bytes of each number, little-endian
+unfoldable pub words : List ℕ → List ℕ
+words [] = []
+words (x ∷ xs) = (x % 256) ∷ (x / 256) ∷ words xs
+
+-- the record that says a state; 3088 is 16 + 256 × 12
+unfoldable pub encode : State → List ℕ
+encode s = (16 ∷ 12 ∷ 1 ∷ 0 ∷ s .n ∷ []) ++ (s .map ++ ((0 ∷ []) ++ (words (s .holders) ++ s .conditions)))
+
+-- the state that a record's bytes say
+unfoldable pub decode : List ℕ → State
+decode r = record {
+  n = getD r 4 0;
+  map = map (λ i. getD r (5 + i) 0) (from 0 10);
+  holders = map (λ x. word r (16 + 2 * x)) (from 0 1024);
+  conditions = map (λ x. getD r (2064 + x) 0) (from 0 1024);
+}
+
+-- refusal 1's whole test
+unfoldable pub headRight : List ℕ → Bool
+headRight r = eqb (word r 0) 3088 && (eqb (word r 2) 1 && eqb (getD r 15 0) 0)
+
+unfoldable pub validRecord : List ℕ → Bool
+validRecord r = eqb (length r) 3088 && (headRight r && valid (decode r))

@@ -1,0 +1,4 @@
+-- The record's bytes, and what its functions promise.
+pub mod Layout
+pub mod Filled
+pub mod Highest

@@ -1,0 +1,255 @@
+// A record's 3088 bytes, and the state that they say (document 01, "Node and record").
+use allocator::State;
+use hypercube::Node;
+ghost use mathlib.Core.Path.{_≡_};
+ghost use mathlib.Core.Bool.{true};
+ghost use mathlib.Core.List.{map};
+ghost use Prim.Native.Nat.{_+_, _*_, _<_, _≤_};
+ghost use lib.ListN.{length, getD};
+ghost use Rattle.hypercube.specs.Lists.{from};
+ghost use Rattle.history.specs.Calls.{word};
+ghost use Rattle.allocator.specs.States.{withCondition};
+ghost use Rattle.allocator.specs.Valid.{nodesRight, valid};
+ghost use Rattle.record.specs.Layout.{encode, decode, headRight, validRecord};
+ghost use Rattle.record.specs.Filled.{Stored};
+ghost use Rattle.record.specs.Highest.{highestOf};
+
+fn wide(b: u8) -> u16
+    ensures { λ r. ⌜ (r ≡ b) × (r < 256) ⌝ }
+{
+    b as u16
+}
+
+// The two bytes from place `at` on, little-endian.
+pub fn word(bytes: &[u8], at: usize) -> u16
+    requires { ⌜ at + 1 < length (now bytes) ⌝ }
+    ensures { λ r. ⌜ r ≡ word (now (bytes .entry)) at ⌝ }
+{
+    let low = wide(bytes[at]);
+    let high = wide(bytes[at + 1]);
+    low + 256 * high
+}
+
+// The dimension that a record says.
+pub fn dimension(bytes: &[u8]) -> u8
+    requires { ⌜ length (now bytes) ≡ 3088 ⌝ }
+    ensures { λ r. ⌜ r ≡ decode (now (bytes .entry)) .n ⌝ }
+{
+    let n = bytes[4];
+    n
+}
+
+fn load_map(bytes: &[u8]) -> [u8; 10]
+    requires { ⌜ length (now bytes) ≡ 3088 ⌝ }
+    ensures { λ r. ⌜ r ≡ map (λ i. getD (now (bytes .entry)) (5 + i) 0) (from 0 10) ⌝ }
+{
+    let mut map = [0; 10];
+    let mut i = 0;
+    while i < 10 {
+        map[i] = bytes[5 + i];
+        i += 1;
+    }
+    map
+}
+
+fn load_holders(bytes: &[u8]) -> [u16; 1024]
+    requires { ⌜ length (now bytes) ≡ 3088 ⌝ }
+    ensures { λ r. ⌜ r ≡ map (λ x. word (now (bytes .entry)) (16 + 2 * x)) (from 0 1024) ⌝ }
+{
+    let mut holders = [0; 1024];
+    let mut x = 0;
+    while x < 1024 {
+        holders[x] = word(bytes, 16 + 2 * x);
+        x += 1;
+    }
+    holders
+}
+
+fn load_conditions(bytes: &[u8]) -> [u8; 1024]
+    requires { ⌜ length (now bytes) ≡ 3088 ⌝ }
+    ensures { λ r. ⌜ r ≡ map (λ x. getD (now (bytes .entry)) (2064 + x) 0) (from 0 1024) ⌝ }
+{
+    let mut conditions = [0; 1024];
+    let mut x = 0;
+    while x < 1024 {
+        conditions[x] = bytes[2064 + x];
+        x += 1;
+    }
+    conditions
+}
+
+// The state that a record says.
+pub fn load(bytes: &[u8]) -> State
+    requires { ⌜ length (now bytes) ≡ 3088 ⌝ }
+    ensures { λ s. ⌜ s ≡ decode (now (bytes .entry)) ⌝ }
+{
+    let n = dimension(bytes);
+    let map = load_map(bytes);
+    let holders = load_holders(bytes);
+    let conditions = load_conditions(bytes);
+    State {
+        n,
+        map,
+        holders,
+        conditions,
+    }
+}
+
+// Length, kind and the zero byte are a record's.
+pub fn head_right(bytes: &[u8]) -> bool
+    requires { ⌜ length (now bytes) ≡ 3088 ⌝ }
+    ensures { λ r. ⌜ r ≡ headRight (now (bytes .entry)) ⌝ }
+{
+    if word(bytes, 0) != 3088 {
+        return false;
+    }
+    if word(bytes, 2) != 1 {
+        return false;
+    }
+    bytes[15] == 0
+}
+
+// The highest of the bytes, 0 for none. The loop runs to its end, so that the compiler takes many bytes at a time.
+fn highest(part: &[u8]) -> u8
+    ensures { λ r. ⌜ r ≡ highestOf (now (part .entry)) ⌝ }
+{
+    let mut m: u8 = 0;
+    let mut i = 0;
+    while i < part.len() {
+        let x = part[i];
+        if m < x {
+            m = x;
+        }
+        i += 1;
+    }
+    m
+}
+
+// "Nodes from 2^n up have holder and condition 0", and below it "conditions up to 2"; `size` is 2^n.
+fn nodes_right(bytes: &[u8], size: usize) -> bool
+    requires { ⌜ (length (now bytes) ≡ 3088) × (size ≤ 1024) ⌝ }
+    ensures { λ r. ⌜ r ≡ nodesRight (decode (now (bytes .entry)) .holders) (decode (now (bytes .entry)) .conditions) size ⌝ }
+{
+    let nodes = 2064 + size;
+    if 2 < highest(&bytes[2064..nodes]) {
+        return false;
+    }
+    if highest(&bytes[nodes..3088]) != 0 {
+        return false;
+    }
+    let held = 16 + 2 * size;
+    highest(&bytes[held..2064]) == 0
+}
+
+// Whether the state that a record says is as "Node and record" has it; no more than the map is loaded.
+fn state_right(bytes: &[u8]) -> bool
+    requires { ⌜ length (now bytes) ≡ 3088 ⌝ }
+    ensures { λ r. ⌜ r ≡ valid (decode (now (bytes .entry))) ⌝ }
+{
+    let n = dimension(bytes);
+    if 10 < n {
+        return false;
+    }
+    let map = load_map(bytes);
+    if !allocator::map_right(&map, n) {
+        return false;
+    }
+    nodes_right(bytes, allocator::node_count(n))
+}
+
+// Refusal 1's whole test.
+pub fn is_valid(bytes: &[u8]) -> bool
+    ensures { λ r. ⌜ r ≡ validRecord (now (bytes .entry)) ⌝ }
+{
+    if bytes.len() != 3088 {
+        return false;
+    }
+    if !head_right(bytes) {
+        return false;
+    }
+    state_right(bytes)
+}
+
+// A node's number, as a place among the 1024.
+fn index(x: Node) -> usize
+    ensures { λ r. ⌜ r ≡ x .0 ⌝ }
+{
+    x.0 as usize
+}
+
+// Node x's holder, read in place.
+pub fn holder_at(bytes: &[u8], x: Node) -> u16
+    requires { ⌜ (length (now bytes) ≡ 3088) × (x .0 < 1024) ⌝ }
+    ensures { λ r. ⌜ r ≡ getD (decode (now (bytes .entry)) .holders) (x .0) 0 ⌝ }
+{
+    word(bytes, 16 + 2 * index(x))
+}
+
+// Node x's condition, read in place.
+pub fn condition_at(bytes: &[u8], x: Node) -> u8
+    requires { ⌜ (length (now bytes) ≡ 3088) × (x .0 < 1024) ⌝ }
+    ensures { λ r. ⌜ r ≡ getD (decode (now (bytes .entry)) .conditions) (x .0) 0 ⌝ }
+{
+    bytes[2064 + index(x)]
+}
+
+// Node x's condition, set in place: one byte is stored.
+pub fn set_condition(bytes: &mut [u8], x: Node, condition: u8)
+    requires { ⌜ (length (now bytes) ≡ 3088) × ((x .0 < 1024) × (headRight (now bytes) ≡ true)) ⌝ }
+    ensures { λ _. ⌜ now (bytes .exit) ≡ encode (withCondition (decode (now (bytes .entry))) (x .0) condition) ⌝ }
+{
+    let i = index(x);
+    bytes[2064 + i] = condition;
+}
+
+// The first 16 bytes: length, kind, n, the map and the zero byte.
+fn put_head(s: State, bytes: &mut [u8])
+    requires { ⌜ length (now bytes) ≡ 3088 ⌝ }
+    ensures { λ _. ⌜ Stored s 16 (now (bytes .exit)) ⌝ }
+{
+    bytes[0] = 16;
+    bytes[1] = 12;
+    bytes[2] = 1;
+    bytes[3] = 0;
+    bytes[4] = s.n;
+    let mut i = 0;
+    while i < 10 {
+        bytes[5 + i] = s.map[i];
+        i += 1;
+    }
+    bytes[15] = 0;
+}
+
+fn put_holders(s: State, bytes: &mut [u8])
+    requires { ⌜ Stored s 16 (now bytes) ⌝ }
+    ensures { λ _. ⌜ Stored s 2064 (now (bytes .exit)) ⌝ }
+{
+    let mut x = 0;
+    while x < 1024 {
+        let h = s.holders[x];
+        bytes[16 + 2 * x] = (h % 256) as u8;
+        bytes[16 + 2 * x + 1] = (h / 256) as u8;
+        x += 1;
+    }
+}
+
+fn put_conditions(s: State, bytes: &mut [u8])
+    requires { ⌜ Stored s 2064 (now bytes) ⌝ }
+    ensures { λ _. ⌜ Stored s 3088 (now (bytes .exit)) ⌝ }
+{
+    let mut x = 0;
+    while x < 1024 {
+        bytes[2064 + x] = s.conditions[x];
+        x += 1;
+    }
+}
+
+// The record that says a state.
+pub fn store(s: State, bytes: &mut [u8])
+    requires { ⌜ length (now bytes) ≡ 3088 ⌝ }
+    ensures { λ _. ⌜ now (bytes .exit) ≡ encode s ⌝ }
+{
+    put_head(s, bytes);
+    put_holders(s, bytes);
+    put_conditions(s, bytes);
+}

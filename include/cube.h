@@ -1,0 +1,74 @@
+/* The partition manager for one binary hypercube: set-up and the frame call.
+ *
+ * Link with libcube.a. Both functions always return, keep nothing between
+ * calls, call nothing and need no heap. They may run in several threads at
+ * once on different buffers.
+ *
+ * The record is 3088 bytes that belong to the host: one record for each cube.
+ * A frame is one call; the reply is written into a buffer of the host's.
+ * The three buffers must not overlap, and each pointer must be valid for its
+ * length (a length of 0 goes with any pointer that isn't null).
+ *
+ * All fields are two bytes, little-endian, unless said.
+ *
+ * Frames: length, kind, then
+ *   good      0x0101, length 6:  node
+ *   fault     0x0102, length 6:  node
+ *   repaired  0x0103, length 6:  node
+ *   request   0x0201, length 8:  job, k (one byte), strategy (one byte)
+ *   release   0x0202, length 6:  job
+ *   relabel   0x0203, length 4
+ *
+ * Replies: length, kind, then
+ *   granted   0x8001, length 12: job, lowest node, star bits, members tried
+ *   refused   0x8002, length 8:  number, members tried (0 unless number is 14)
+ *   done      0x8003, length 6:  for a fault the holder, for a release the
+ *                                nodes given back, for a relabel the size of
+ *                                D, else 0
+ * Reply bytes past the frame keep their values.
+ *
+ * Returned: 0 if the call was accepted, else the number of the first cause
+ * that it meets, in this order:
+ *    1  the record is not one                      record and reply untouched
+ *    2  the reply buffer has under 12 bytes        record and reply untouched
+ *    3  frame under 4 bytes, or its length field isn't its size
+ *    4  kind not one of the six
+ *    5  size not its kind's
+ *    6  job 0
+ *    7  k above n (set-up: n above 10)
+ *    8  node not below 2^n
+ *    9  strategy above 3
+ *   10  the requesting job holds nodes
+ *   11  the releasing job holds none
+ *   12  'good' on a faulty node, 'repaired' on one that isn't faulty
+ *   13  relabel while any node is held
+ *   14  no free member
+ * From 3 on the refused frame is written too; the record is untouched by every
+ * refusal. An accepted call writes the reply's frame, and the record holds the
+ * cube after the call.
+ */
+#ifndef CUBE_H
+#define CUBE_H
+
+#include <stddef.h>
+#include <stdint.h>
+
+#ifdef __cplusplus
+extern "C" {
+#endif
+
+/* Makes `record` a fresh cube of dimension n, 0 to 10, whatever bytes it had.
+ * Returns 0; or 1 if record_len isn't 3088; or 7 if n is above 10. A refused
+ * set-up writes nothing. */
+uint32_t cube_setup(uint8_t *record, size_t record_len, uint32_t n);
+
+/* Carries out one frame on a record and writes its reply. */
+uint32_t cube_call(uint8_t *record, size_t record_len,
+                   const uint8_t *frame, size_t frame_len,
+                   uint8_t *reply, size_t reply_len);
+
+#ifdef __cplusplus
+}
+#endif
+
+#endif
