@@ -7,18 +7,20 @@
 mod proved;
 
 use cube_reference as reference;
+use std::hint::black_box;
 use std::time::Instant;
 
 type Call = fn(&mut [u8], &[u8], &mut [u8]) -> u32;
 
 const STRATEGIES: [&str; 4] = ["buddy", "Gray", "tree", "extended"];
 
-/// A row: the calls that stand before, and the calls that are timed in turn.
+/// A row: the calls that stand before, and the call that is timed, each time on
+/// the record as those left it.
 struct Row {
     name: String,
     n: u32,
     before: Vec<Vec<u8>>,
-    turn: Vec<Vec<u8>>,
+    call: Vec<u8>,
 }
 
 fn frame(kind: u16, fields: &[u8]) -> Vec<u8> {
@@ -44,24 +46,26 @@ fn goods(n: u32) -> Vec<Vec<u8>> {
     (0..1 << n).map(|x| node(0x0101, x)).collect()
 }
 
-fn row(name: &str, n: u32, before: Vec<Vec<u8>>, turn: Vec<Vec<u8>>) -> Row {
-    Row { name: name.to_string(), n, before, turn }
+fn row(name: &str, n: u32, before: Vec<Vec<u8>>, call: Vec<u8>) -> Row {
+    Row { name: name.to_string(), n, before, call }
 }
 
 fn rows(n: u32) -> Vec<Row> {
     let last = (1 << n) - 1;
     let faults = vec![node(0x0102, 0), node(0x0102, last)];
     let mut rows = vec![
-        row("report good", n, vec![], vec![node(0x0101, last)]),
-        row("report fault", n, vec![], vec![node(0x0102, 0)]),
-        row("refused frame (4)", n, vec![], vec![frame(0x0999, &[0, 0])]),
-        row("refused node (8)", n, vec![], vec![node(0x0101, 1 << n)]),
-        row("refused release (11)", n, goods(n), vec![release(7)]),
-        row("relabel", n, faults, vec![frame(0x0203, &[])]),
+        row("report good", n, vec![], node(0x0101, last)),
+        row("report fault", n, vec![], node(0x0102, 0)),
+        row("refused frame (4)", n, vec![], frame(0x0999, &[0, 0])),
+        row("refused node (8)", n, vec![], node(0x0101, 1 << n)),
+        row("refused release (11)", n, goods(n), release(7)),
+        row("relabel", n, faults, frame(0x0203, &[])),
     ];
     for (strategy, name) in STRATEGIES.iter().enumerate() {
-        let turn = vec![request(7, n / 2, strategy as u8), release(7)];
-        rows.push(row(&format!("grant and release, {name}"), n, goods(n), turn));
+        let request = request(7, n / 2, strategy as u8);
+        let granted = [goods(n), vec![request.clone()]].concat();
+        rows.push(row(&format!("request granted, {name}"), n, goods(n), request));
+        rows.push(row(&format!("release, {name}"), n, granted, release(7)));
     }
     rows
 }
@@ -71,37 +75,49 @@ fn worst(n: u32) -> Vec<Row> {
     let mut rows = Vec::new();
     for (strategy, name) in STRATEGIES.iter().enumerate() {
         for k in 0..=n {
-            let turn = vec![request(7, k, strategy as u8)];
-            rows.push(row(&format!("none free, {name}, k {k}"), n, vec![], turn));
+            let request = request(7, k, strategy as u8);
+            rows.push(row(&format!("none free, {name}, k {k}"), n, vec![], request));
         }
     }
     rows
 }
 
-/// Nanoseconds a call, the least of several rounds.
-fn time(row: &Row, call: Call) -> f64 {
-    let mut record = vec![0; 3088];
-    reference::setup(&mut record, row.n);
-    let mut reply = [0; 12];
-    for frame in &row.before {
-        call(&mut record, frame, &mut reply);
-    }
+/// Nanoseconds a turn, the least of several rounds.
+fn least(mut turn: impl FnMut()) -> f64 {
     let mut best = f64::MAX;
-    for _ in 0..7 {
+    for _ in 0..9 {
         let began = Instant::now();
         let mut turns = 0u32;
-        while turns < 64 || began.elapsed().as_micros() < 2500 {
-            for _ in 0..16 {
-                for frame in &row.turn {
-                    call(&mut record, frame, &mut reply);
-                }
-                turns += 1;
+        while turns < 64 || began.elapsed().as_micros() < 2000 {
+            for _ in 0..32 {
+                turn();
             }
+            turns += 32;
         }
-        let calls = f64::from(turns) * row.turn.len() as f64;
-        best = best.min(began.elapsed().as_nanos() as f64 / calls);
+        best = best.min(began.elapsed().as_nanos() as f64 / f64::from(turns));
     }
     best
+}
+
+/// Nanoseconds of the row's call; the copy of the record before it is timed
+/// alone and taken off.
+fn time(row: &Row, call: Call) -> f64 {
+    let mut start = [0; 3088];
+    reference::setup(&mut start, row.n);
+    let mut reply = [0; 12];
+    for frame in &row.before {
+        call(&mut start, frame, &mut reply);
+    }
+    let mut record = start;
+    let copy = least(|| {
+        record = start;
+        black_box(&mut record);
+    });
+    let both = least(|| {
+        record = start;
+        black_box(call(black_box(&mut record), &row.call, &mut reply));
+    });
+    both - copy
 }
 
 fn main() {

@@ -1,19 +1,19 @@
 -- D from two masks, of the bits seen as 1 and of those seen as 0 in the faulty nodes passed. Assumes nothing.
-use Prim.Native.Nat.{ℕ, zero, suc, _+_, _/_, _%_, _^_, _<_, _≤_, min, max}
-use mathlib.Core.Path.{_≡_, refl, sym, ap, ap₂, _∙_, subst}
+use Prim.Native.Nat.{ℕ, _+_, _/_, _%_, _^_, _<_, _≤_, min, max}
+use mathlib.Core.Path.{_≡_, sym, ap, _∙_, subst}
 use mathlib.Core.Logic.{_≢_, _↔_, _⊎_, inl, inr, ⊎-elim}
 use mathlib.Core.Bool.{Bool, true, false, true≢false}
-use mathlib.Core.List.{_∷_, map}
 use native.Mathlib.Omega.{arith}
 use lib.Bits.{bitAnd, bitOr, bitXor, and-step, or-step, and-shr, or-shr}
 use lib.Dec.{eqb}
-use Rattle.hypercube.specs.Lists.{Some, over, from, passing}
+use Rattle.hypercube.specs.Lists.{Some, passing}
 use Rattle.hypercube.specs.Bits.{bit}
 use Rattle.hypercube.specs.Labels.{differ, differing}
 use Rattle.hypercube.proofs.Bits.{lt-or, bit-cases, bit-ones, bit-zero, bit-xor}
 use Rattle.hypercube.proofs.Tests.{means-eq, same-test}
 use Rattle.hypercube.proofs.Relabels.{in-D}
 use Rattle.labels.specs.Relabelling.{inMask}
+use Rattle.labels.proofs.Filling.{map-same}
 
 -- ---- bits of two numbers together
 
@@ -93,12 +93,6 @@ module _ (test : ℕ → Bool) where
   masks-same x ones zeros t s = record { as-one = shows-same 1 x ones t (s .as-one); as-zero = shows-same 0 x zeros t (s .as-zero) }
 
 -- ---- D
-
-map-same : {A : Type 0} (f g : ℕ → A) (c a : ℕ) → ((i : ℕ) → a ≤ i → i < a + c → f i ≡ g i) → map f (from a c) ≡ map g (from a c)
-unfolding over
-map-same f g zero a h = refl
-map-same f g (suc c) a h =
-    ap₂ (λ x xs. x ∷ xs) (h a (omega arith) (omega arith)) (map-same f g c (a + 1) (λ i l u. h i (omega arith) (omega arith)))
 
 -- of two bits that differ one is 1 and one is 0
 apart : (x y i : ℕ) → bit x i ≢ bit y i → ((bit x i ≡ 1) ⊎ (bit y i ≡ 1)) × ((bit x i ≡ 0) ⊎ (bit y i ≡ 0))

@@ -7,7 +7,7 @@ use native.Mathlib.Decide.{ℕ-discrete}
 use native.Mathlib.Nat.{pow-succ'}
 use native.Mathlib.Omega.{arith}
 use lib.ListN.{getD, set}
-use lib.Pow.{pow-mono}
+use lib.Pow.{pow-pos, pow-mono}
 use Rattle.hypercube.specs.Bits.{bit}
 use Rattle.hypercube.specs.Labels.{node}
 use Rattle.hypercube.specs.declared.Node.{Node}
@@ -38,14 +38,14 @@ node-zero (d ∷ ds) = omega (arith, bit-zero (d - 1), node-zero ds)
 -- ---- the nodes by label, of which the first i are written
 
 abbrev pub nodesTo : ℕ → List ℕ → ℕ → List Node
-nodesTo n ds i = upTo n (nodeAt ds) (numbered 0) i
+nodesTo n ds i = upTo (2 ^ n) (nodeAt ds) (numbered 0) i
 
 -- the node of label 0 is 0
 pub nodes-one : (n : ℕ) (ds : List ℕ) → n ≤ 10 → nodesTo n ds 0 ≡ nodesTo n ds 1
-nodes-one n ds h = upTo-one n (nodeAt ds) (numbered 0) h (ap numbered (sym (node-zero ds)))
+nodes-one n ds h = upTo-one (2 ^ n) (nodeAt ds) (numbered 0) (cube-le n h) (pow-pos n) (ap numbered (sym (node-zero ds)))
 
 pub nodes-all : (n : ℕ) (ds : List ℕ) → nodesTo n ds (2 ^ n) ≡ nodes n ds
-nodes-all n ds = upTo-all n (nodeAt ds) (numbered 0)
+nodes-all n ds = upTo-all (2 ^ n) (nodeAt ds) (numbered 0) (2 ^ n) refl
 
 -- what is known in one turn: the labels below size = 2^j, and l more, are written; the step is the node of that bit alone
 pub record Turn (n : ℕ) (ds : List ℕ) (j size step l : ℕ) (xs : List Node) : Type 0 where
@@ -69,7 +69,7 @@ module _ {n : ℕ} {ds : List ℕ} {j size step l : ℕ} {xs : List Node} (t : T
 
   lower-node : lower ≡ node ds l
   lower-node =
-      let at = upTo-at n (nodeAt ds) (numbered 0) (size + l) l (omega (arith, t .inside)) (omega (arith, label-below)) in
+      let at = upTo-at (2 ^ n) (nodeAt ds) (numbered 0) (size + l) l (omega (arith, t .inside)) (omega (arith, label-below)) in
       ap (λ (ys : List Node). getD ys l (numbered 0) .0) (t .so-far) ∙ ap (λ (y : Node). y .0) at
 
   next-node : lower + step ≡ node ds (size + l)
@@ -85,5 +85,5 @@ module _ {n : ℕ} {ds : List ℕ} {j size step l : ℕ} {xs : List Node} (t : T
   nodes-more =
       let e : size + l + 1 ≡ size + (l + 1) = omega arith in
       ap (λ (ys : List Node). set ys (size + l) (numbered (lower + step))) (t .so-far)
-      ∙ upTo-more n (nodeAt ds) (numbered 0) (t .dimension) (size + l) (numbered (lower + step)) label-below (ap numbered next-node)
+      ∙ upTo-more (2 ^ n) (nodeAt ds) (numbered 0) (cube-le n (t .dimension)) (size + l) (numbered (lower + step)) label-below (ap numbered next-node)
       ∙ ap (nodesTo n ds) e

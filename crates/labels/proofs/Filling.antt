@@ -1,7 +1,7 @@
 -- Lists that a loop writes from the front, and lists made by counting. Assumes nothing.
 use Prim.Native.Nat.{ℕ, zero, suc, _+_, _-_, _<_, _≤_}
-use mathlib.Core.Path.{_≡_, refl, ap, _∙_}
-use mathlib.Core.List.{List, _++_, map}
+use mathlib.Core.Path.{_≡_, refl, ap, ap₂, _∙_}
+use mathlib.Core.List.{List, _∷_, _++_, map}
 use native.Mathlib.Numerals.{add-one}
 use native.Mathlib.Omega.{arith}
 use lib.ListN.{length, getD, take, drop, set, replicate, length-map, length-take, List·getD-append}
@@ -37,6 +37,12 @@ unfolding over
 getD-of f z zero a k h = absurd (omega arith)
 getD-of f z (suc c) a zero h = ap f (omega arith)
 getD-of f z (suc c) a (suc k) h = getD-of f z c (a + 1) k (omega arith) ∙ ap f (omega arith)
+
+pub map-same : {A : Type 0} (f g : ℕ → A) (c a : ℕ) → ((i : ℕ) → a ≤ i → i < a + c → f i ≡ g i) → map f (from a c) ≡ map g (from a c)
+unfolding over
+map-same f g zero a h = refl
+map-same f g (suc c) a h =
+    ap₂ (λ x xs. x ∷ xs) (h a (omega arith) (omega arith)) (map-same f g c (a + 1) (λ i l u. h i (omega arith) (omega arith)))
 
 pub drop-replicate : {A : Type 0} (z : A) (m i : ℕ) → drop i (replicate m z) ≡ replicate (m - i) z
 drop-replicate z m zero = let e : m - 0 ≡ m = omega arith in rw e

@@ -1,4 +1,4 @@
--- The lists by label, written from the front and read; the flags among them. Assumes nothing.
+-- Tables of 1024 entries, written from the front and read; the flags among them. Assumes nothing.
 use Prim.Native.Nat.{ℕ, _+_, _-_, _^_, _<_, _≤_}
 use mathlib.Core.Path.{_≡_, refl, sym, ap, _∙_}
 use mathlib.Core.Bool.{Bool, true, false, cond, _&&_}
@@ -6,74 +6,93 @@ use mathlib.Core.List.{List, _++_, map}
 use native.Mathlib.Omega.{arith}
 use lib.Dec.{eqb}
 use lib.ListN.{length, getD, set, replicate, length-append, length-replicate, List·getD-append}
-use lib.Pow.{pow-pos, pow-mono}
+use lib.Pow.{pow-mono}
 use lib.Seq.{getD-append-add}
 use Rattle.hypercube.specs.Lists.{from}
 use Rattle.hypercube.specs.Labels.{node}
-use Rattle.labels.specs.Flags.{flag, flagAt, byLabel, flags}
-use Rattle.labels.proofs.Filling.{written, written-more, written-at, written-all, length-of, getD-of, drop-replicate, getD-same}
+use Rattle.hypercube.specs.declared.Node.{Node}
+use Rattle.labels.specs.Directions.{Directions, Own}
+use Rattle.labels.specs.Flags.{flag, table, byNode, numbered, nodeAt, nodes, flagAt, flags}
+use Rattle.labels.proofs.Directions.{node-small, node-own}
+use Rattle.labels.proofs.Filling.{written, written-more, written-at, written-all, length-of, getD-of, map-same, drop-replicate, getD-same}
 
 -- a cube has at most 1024 nodes
 pub cube-le : (n : ℕ) → n ≤ 10 → 2 ^ n ≤ 1024
 cube-le n h = pow-mono {i = n} {j = 10} h
 
--- a list by label of which the first i entries are written
+-- a table of which the first i entries are written
 abbrev pub upTo : {A : Type 0} → ℕ → (ℕ → A) → A → ℕ → List A
-upTo n f z i = written (replicate 1024 z) (map f (from 0 (2 ^ n))) i
+upTo c f z i = written (replicate 1024 z) (map f (from 0 c)) i
 
-module _ {A : Type 0} (n : ℕ) (f : ℕ → A) (z : A) where
+module _ {A : Type 0} (c : ℕ) (f : ℕ → A) (z : A) where
   abbrev first : List A
-  first = map f (from 0 (2 ^ n))
+  first = map f (from 0 c)
 
   abbrev rest : List A
-  rest = replicate (1024 - 2 ^ n) z
+  rest = replicate (1024 - c) z
 
-  size : length first ≡ 2 ^ n
-  size = length-of f 0 (2 ^ n)
+  size : length first ≡ c
+  size = length-of f 0 c
 
-  entry : (l : ℕ) → l < 2 ^ n → getD first l z ≡ f l
-  entry l h = getD-of f z (2 ^ n) 0 l h ∙ ap f (omega arith)
+  entry : (l : ℕ) → l < c → getD first l z ≡ f l
+  entry l h = getD-of f z c 0 l h ∙ ap f (omega arith)
 
-  pub byLabel-at : (l : ℕ) → l < 2 ^ n → getD (byLabel n f z) l z ≡ f l
-  byLabel-at l h = List·getD-append first rest z l (omega (arith, size)) ∙ entry l h
+  pub table-at : (l : ℕ) → l < c → getD (table c f z) l z ≡ f l
+  table-at l h = List·getD-append first rest z l (omega (arith, size)) ∙ entry l h
 
-  pub byLabel-past : (l : ℕ) → 2 ^ n ≤ l → getD (byLabel n f z) l z ≡ z
-  byLabel-past l h =
-      let e : length first + (l - 2 ^ n) ≡ l = omega (arith, size) in
-      ap (λ (k : ℕ). getD (first ++ rest) k z) (sym e) ∙ getD-append-add first rest (l - 2 ^ n) z
-      ∙ getD-same z (1024 - 2 ^ n) (l - 2 ^ n)
+  pub table-past : (l : ℕ) → c ≤ l → getD (table c f z) l z ≡ z
+  table-past l h =
+      let e : length first + (l - c) ≡ l = omega (arith, size) in
+      ap (λ (k : ℕ). getD (first ++ rest) k z) (sym e) ∙ getD-append-add first rest (l - c) z
+      ∙ getD-same z (1024 - c) (l - c)
 
-  pub upTo-at : (i l : ℕ) → l < i → i ≤ 2 ^ n → getD (upTo n f z i) l z ≡ f l
+  pub upTo-at : (i l : ℕ) → l < i → i ≤ c → getD (upTo c f z i) l z ≡ f l
   upTo-at i l b h = written-at (replicate 1024 z) first i z l b (omega (arith, size)) ∙ entry l (omega arith)
 
-  pub upTo-all : upTo n f z (2 ^ n) ≡ byLabel n f z
-  upTo-all =
-      written-all (replicate 1024 z) first (2 ^ n) (omega (arith, size)) ∙ ap (λ l. first ++ l) (drop-replicate z 1024 (2 ^ n))
+  pub upTo-all : (i : ℕ) → i ≡ c → upTo c f z i ≡ table c f z
+  upTo-all i e =
+      ap (upTo c f z) e
+      ∙ written-all (replicate 1024 z) first c (omega (arith, size)) ∙ ap (λ l. first ++ l) (drop-replicate z 1024 c)
 
-  module _ (h : n ≤ 10) where
-    pub length-byLabel : length (byLabel n f z) ≡ 1024
-    length-byLabel = length-append first rest ∙ omega (arith, size, length-replicate (1024 - 2 ^ n) z, cube-le n h)
+  module _ (h : c ≤ 1024) where
+    pub length-table : length (table c f z) ≡ 1024
+    length-table = length-append first rest ∙ omega (arith, size, length-replicate (1024 - c) z)
 
-    pub upTo-more : (i : ℕ) (v : A) → i < 2 ^ n → v ≡ f i → set (upTo n f z i) i v ≡ upTo n f z (i + 1)
+    pub upTo-more : (i : ℕ) (v : A) → i < c → v ≡ f i → set (upTo c f z i) i v ≡ upTo c f z (i + 1)
     upTo-more i v b e =
-        written-more (replicate 1024 z) first i z v (omega (arith, length-replicate 1024 z, cube-le n h)) (omega (arith, size))
-        (e ∙ sym (entry i b))
+        written-more (replicate 1024 z) first i z v (omega (arith, length-replicate 1024 z)) (omega (arith, size)) (e ∙ sym (entry i b))
 
-    -- the entry of label 0 may stand already
-    pub upTo-one : z ≡ f 0 → upTo n f z 0 ≡ upTo n f z 1
-    upTo-one e = upTo-more 0 z (pow-pos n) e
+    -- the entry of 0 may stand already
+    pub upTo-one : 0 < c → z ≡ f 0 → upTo c f z 0 ≡ upTo c f z 1
+    upTo-one = upTo-more 0 z
 
 -- ---- the flags
 
 module _ (n : ℕ) (ds cs hs : List ℕ) where
   pub flags-free : (l : ℕ) → l < 2 ^ n → getD (flags n ds cs hs) l 0 ≡ flag cs hs (node ds l)
-  flags-free = byLabel-at n (flagAt ds cs hs) 0
+  flags-free = table-at (2 ^ n) (flagAt ds cs hs) 0
 
   pub flags-past : (l : ℕ) → 2 ^ n ≤ l → getD (flags n ds cs hs) l 0 ≡ 0
-  flags-past = byLabel-past n (flagAt ds cs hs) 0
+  flags-past = table-past (2 ^ n) (flagAt ds cs hs) 0
 
-  pub length-flags : n ≤ 10 → length (flags n ds cs hs) ≡ 1024
-  length-flags = length-byLabel n (flagAt ds cs hs) 0
+  module _ (h : n ≤ 10) where
+    pub length-flags : length (flags n ds cs hs) ≡ 1024
+    length-flags = length-table (2 ^ n) (flagAt ds cs hs) 0 (cube-le n h)
+
+    -- each direction maps to itself: the flags by label are those by node
+    pub flags-own : Directions ds → Own ds → byNode (2 ^ n) cs hs ≡ flags n ds cs hs
+    flags-own D own =
+        ap (λ l. l ++ replicate (1024 - 2 ^ n) 0)
+        (map-same (flag cs hs) (flagAt ds cs hs) (2 ^ n) 0
+        (λ l a b. ap (flag cs hs) (sym (node-own D own l (omega (arith, cube-le n h))))))
+
+-- a label's node among the nodes by label, and its flag among the flags by node
+
+pub node-at : (n : ℕ) (ds : List ℕ) (l : ℕ) → l < 2 ^ n → getD (nodes n ds) l (numbered 0) .0 ≡ node ds l
+node-at n ds l h = ap (λ (y : Node). y .0) (table-at (2 ^ n) (nodeAt ds) (numbered 0) l h)
+
+pub flag-at : {ds : List ℕ} (cs hs : List ℕ) (l : ℕ) → Directions ds → getD (byNode 1024 cs hs) (node ds l) 0 ≡ flagAt ds cs hs l
+flag-at {ds} cs hs l D = table-at 1024 (flag cs hs) 0 (node ds l) (node-small 0 l D)
 
 -- a flag is 1 where the node is good and unheld
 pub flag-test : (cs hs : List ℕ) (x : ℕ) → eqb (flag cs hs x) 1 ≡ eqb (getD cs x 0) 1 && eqb (getD hs x 0) 0

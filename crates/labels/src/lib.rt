@@ -3,13 +3,14 @@
 use hypercube::Label;
 use hypercube::Node;
 ghost use mathlib.Core.Path.{_≡_};
+ghost use mathlib.Core.Bool.{true};
 ghost use mathlib.Core.List.{_++_};
 ghost use Prim.Native.Nat.{_+_, _-_, _*_, _^_, _≤_, _<_};
 ghost use Rattle.hypercube.specs.Lists.{from};
 ghost use Rattle.hypercube.specs.Bits.{bit};
 ghost use Rattle.hypercube.specs.Labels.{label, node, differing, size, assign};
-ghost use Rattle.labels.specs.Directions.{Directions};
-ghost use Rattle.labels.specs.Flags.{nodes, flag, flags};
+ghost use Rattle.labels.specs.Directions.{Directions, Own};
+ghost use Rattle.labels.specs.Flags.{nodes, flagOf, byNode, flags};
 ghost use Rattle.labels.specs.Relabelling.{faulty, inMask, relabelling};
 
 // 2 to the e.
@@ -171,17 +172,43 @@ fn nodes_by_label(n: u16, map: &[u8; 10]) -> [Node; 1024]
     nodes
 }
 
-// 1 where node x is free, else 0: "A node is free if it is good and unheld."
-fn flag_of<'a>(conditions: &'a [u8; 1024], holders: &'a [u16; 1024], x: Node) -> u8
-    requires { ⌜ x .0 < 1024 ⌝ }
-    ensures { λ r. ⌜ r ≡ flag (now (conditions .entry)) (now (holders .entry)) (x .0) ⌝ }
+// 1 where a node of this condition and this holder is free, else 0: "A node is free if it is good and unheld."
+fn flag_of(condition: u8, holder: u16) -> u8
+    ensures { λ r. ⌜ r ≡ flagOf condition holder ⌝ }
 {
-    let i = x.0 as usize;
-    if conditions[i] == 1 && holders[i] == 0 {
-        1
-    } else {
-        0
+    if condition == 1 && holder == 0 { 1 } else { 0 }
+}
+
+// The flags of the nodes below `size`, by node. Condition and holder are read at every node, so the loop compiles to vector code.
+fn flags_by_node<'a>(
+    size: usize,
+    conditions: &'a [u8; 1024],
+    holders: &'a [u16; 1024],
+) -> [u8; 1024]
+    requires { ⌜ size ≤ 1024 ⌝ }
+    ensures { λ r. ⌜ r ≡ byNode size (now (conditions .entry)) (now (holders .entry)) ⌝ }
+{
+    let mut flags = [0; 1024];
+    let mut x: usize = 0;
+    while x < size {
+        flags[x] = flag_of(conditions[x], holders[x]);
+        x += 1;
     }
+    flags
+}
+
+// Whether each direction maps to itself: each label is then its node's number.
+fn is_identity(map: &[u8; 10]) -> bool
+    ensures { λ r. ⌜ (r ≡ true → Own (now (map .entry))) ⌝ }
+{
+    let mut at: usize = 0;
+    while at < 10 {
+        if map[at] != at as u8 + 1 {
+            return false;
+        }
+        at += 1;
+    }
+    true
 }
 
 // The flags by label: all that a walk sees of conditions, holders and map.
@@ -194,12 +221,17 @@ pub fn flags_by_label<'a>(
     requires { ⌜ (n ≤ 10) × Directions (now map) ⌝ }
     ensures { λ r. ⌜ r ≡ flags n (now (map .entry)) (now (conditions .entry)) (now (holders .entry)) ⌝ }
 {
-    let nodes = nodes_by_label(n, map);
     let size = pow2(n) as usize;
+    if is_identity(map) {
+        return flags_by_node(size, conditions, holders);
+    }
+    let nodes = nodes_by_label(n, map);
+    let by_node = flags_by_node(1024, conditions, holders);
     let mut flags = [0; 1024];
     let mut l: usize = 0;
     while l < size {
-        flags[l] = flag_of(conditions, holders, nodes[l]);
+        let x = nodes[l].0 as usize;
+        flags[l] = by_node[x];
         l += 1;
     }
     flags

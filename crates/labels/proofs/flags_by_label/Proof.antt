@@ -1,37 +1,40 @@
 -- `labels::flags_by_label` meets its contract. The loop's invariant: the flags of the labels passed are written. Assumes nothing.
-use Prim.Native.Nat.{_-_, _^_, _<_, _≤_}
+use Prim.Native.Nat.{ℕ, _-_, _^_, _<_, _≤_}
 use mathlib.Core.Path.{_≡_, refl, ap, _∙_}
 use native.Mathlib.Omega.{arith}
+use borrow.Author.Needs.{needs}
 use lib.ListN.{getD}
 use Rattle.hypercube.specs.Labels.{node}
-use Rattle.hypercube.specs.declared.Node.{Node}
-use Rattle.labels.specs.Flags.{numbered, nodeAt, flag, flagAt}
+use Rattle.labels.specs.Flags.{byNode, numbered, flagAt}
 use Rattle.labels.proofs.Directions.{node-small}
-use Rattle.labels.proofs.Flags.{cube-le, upTo, byLabel-at, upTo-all, upTo-more}
+use Rattle.labels.proofs.Flags.{cube-le, upTo, upTo-all, upTo-more, flags-own, node-at, flag-at}
 use Rattle.labels.proofs.flags_by_label.Statement.{statement}
 use Rattle.labels.proofs.flags_by_label.Tie as tie
 
 abbrev Inv-loop : tie.InvT-loop
-Inv-loop n map conditions holders nodes size flags₀ l₀ flags l =
-    (flags ≡ upTo n (flagAt map conditions holders) 0 l) × (l ≤ size) × (size ≤ 1024)
+Inv-loop n map conditions holders size nodes by-node flags₀ l₀ flags l =
+    (flags ≡ upTo (2 ^ n) (flagAt map conditions holders) 0 l) × (l ≤ size) × (size ≤ 1024)
 
 abbrev μ-loop : tie.MeasureT-loop
-μ-loop n map conditions holders nodes size flags₀ l₀ flags l = size - l
+μ-loop n map conditions holders size nodes by-node flags₀ l₀ flags l = size - l
 
-below : (c : tie.In-loop Inv-loop μ-loop) → c .before .loop .l < 2 ^ c .before .before .before .before .args .n
-below c = omega (arith, c .before .before .pow2 .ensures, c .loop-test .taken)
+small : (c : tie.After-pow2 Inv-loop μ-loop) → c .pow2 .result ≤ 1024
+small c = rw (c .pow2 .ensures) (cube-le (c .before .args .n) (c .before .pre .0))
+
+below : (c : tie.In-loop Inv-loop μ-loop) → c .before .loop .l < 2 ^ c .before .before .before .before .before .before .before .args .n
+below c = omega (arith, c .before .before .before .before .before .before .pow2 .ensures, c .loop-test .taken)
 
 -- the entry that a turn reads is its label's node
 its-node : (c : tie.In-loop Inv-loop μ-loop)
     → getD (c .before .before .before .nodes-by-label .result) (c .before .loop .l) (numbered 0) .0
-    ≡ node (c .before .before .before .before .args .map .now) (c .before .loop .l)
+    ≡ node (c .before .before .before .before .before .before .before .args .map .now) (c .before .loop .l)
 its-node c =
-    let a = c .before .before .before .before .args in
+    let a = c .before .before .before .before .before .before .before .args in
     rw (c .before .before .before .nodes-by-label .ensures)
-    (ap (λ (y : Node). y .0) (byLabel-at (a .n) (nodeAt (a .map .now)) (numbered 0) (c .before .loop .l) (below c)))
+    (node-at (a .n) (a .map .now) (c .before .loop .l) (below c))
 
-nodes-by-label-requires : tie.Need-nodes-by-label-requires Inv-loop μ-loop
-nodes-by-label-requires c κs = c .pre
+node-below : (c : tie.In-loop Inv-loop μ-loop) → getD (c .before .before .before .nodes-by-label .result) (c .before .loop .l) (numbered 0) .0 < 1024
+node-below c = rw (its-node c) (node-small 0 (c .before .loop .l) (c .before .before .before .before .before .before .before .pre .1))
 
 pow2-requires : tie.Need-pow2-requires Inv-loop μ-loop
 pow2-requires c κs = omega arith
@@ -39,17 +42,40 @@ pow2-requires c κs = omega arith
 cast-size : tie.Need-cast-size Inv-loop μ-loop
 cast-size c = omega arith
 
+is-identity-requires : tie.Need-is-identity-requires Inv-loop μ-loop
+is-identity-requires c κs = search needs
+
+flags-by-node-requires : tie.Need-flags-by-node-requires Inv-loop μ-loop
+flags-by-node-requires c κs = omega (arith, small (c .before .before))
+
+returns : tie.Need-returns Inv-loop μ-loop
+returns c =
+    let start = c .before .before .before .before in
+    let a = start .args in
+    c .flags-by-node .ensures ∙ ap (λ (k : ℕ). byNode k (a .conditions .now) (a .holders .now)) (c .before .before .before .pow2 .ensures)
+    ∙ flags-own (a .n) (a .map .now) (a .conditions .now) (a .holders .now) (start .pre .0) (start .pre .1)
+    (c .before .before .is-identity .ensures (c .before .if1 .taken))
+
+nodes-by-label-requires : tie.Need-nodes-by-label-requires Inv-loop μ-loop
+nodes-by-label-requires c κs = c .before .before .before .pre
+
+flags-by-node-requires-2 : tie.Need-flags-by-node-requires-2 Inv-loop μ-loop
+flags-by-node-requires-2 c κs = omega arith
+
 loop-holds : tie.Need-loop-holds Inv-loop μ-loop
-loop-holds c = (refl, omega arith, omega (arith, c .pow2 .ensures, cube-le (c .before .before .args .n) (c .before .before .pre .0)))
+loop-holds c = (refl, omega arith, small (c .before .before .before .before))
 
-mul-flag-of : tie.Need-mul-flag-of Inv-loop μ-loop
-mul-flag-of c = omega arith
+mul-x : tie.Need-mul-x Inv-loop μ-loop
+mul-x c = omega arith
 
-array-copy-out-flag-of : tie.Need-array-copy-out-flag-of Inv-loop μ-loop
-array-copy-out-flag-of c = omega arith
+element-copy-out-x : tie.Need-element-copy-out-x Inv-loop μ-loop
+element-copy-out-x c = omega arith
 
-flag-of-requires : tie.Need-flag-of-requires Inv-loop μ-loop
-flag-of-requires c κs = rw (its-node (c .before)) (node-small 0 (c .before .before .loop .l) (c .before .before .before .before .before .pre .1))
+cast-x : tie.Need-cast-x Inv-loop μ-loop
+cast-x c = omega (arith, node-below c)
+
+array-read-flags : tie.Need-array-read-flags Inv-loop μ-loop
+array-read-flags c = node-below c
 
 array-write-flags : tie.Need-array-write-flags Inv-loop μ-loop
 array-write-flags c = omega arith
@@ -62,22 +88,23 @@ loop-less c = omega arith
 
 loop-again : tie.Need-loop-again Inv-loop μ-loop
 loop-again c =
-    let start = c .before .before .before .before .before .before in
-    let cs = start .args .conditions .now in
-    let hs = start .args .holders .now in
-    let e = c .flag-of .ensures ∙ ap (flag cs hs) (its-node (c .before .before)) in (
-      rw (c .before .before .before .loop .inv .0)
-          (upTo-more (start .args .n) (flagAt (start .args .map .now) cs hs) 0 (start .pre .0) (c .before .before .before .loop .l) (c .flag-of .result)
-          (below (c .before .before)) e),
+    let start = c .before .before .before .before .before .before .before in
+    let a = start .args in
+    let l = c .before .loop in
+    let e = flag-at (a .conditions .now) (a .holders .now) (l .l) (start .pre .1) in (
+      rw (l .inv .0)
+          (upTo-more (2 ^ a .n) (flagAt (a .map .now) (a .conditions .now) (a .holders .now)) 0 (cube-le (a .n) (start .pre .0)) (l .l) _ (below c)
+          (rw (its-node c, c .before .before .flags-by-node2 .ensures) e)),
       omega arith,
       omega arith,
     )
 
-returns : tie.Need-returns Inv-loop μ-loop
-returns c =
-    let a = c .before .before .before .before .args in
-    let e : c .before .loop .l ≡ 2 ^ a .n = omega (arith, c .before .before .pow2 .ensures) in
-    rw e at (c .before .loop .inv .0) ∙ upTo-all (a .n) (flagAt (a .map .now) (a .conditions .now) (a .holders .now)) 0
+returns-2 : tie.Need-returns-2 Inv-loop μ-loop
+returns-2 c =
+    let a = c .before .before .before .before .before .before .before .args in
+    c .before .loop .inv .0
+    ∙ upTo-all (2 ^ a .n) (flagAt (a .map .now) (a .conditions .now) (a .holders .now)) 0 (c .before .loop .l)
+    (omega (arith, c .before .before .before .before .before .before .pow2 .ensures))
 
 pub flags-by-label-spec : {M : Type 1} → statement M
 flags-by-label-spec =
@@ -85,15 +112,20 @@ flags-by-label-spec =
     (tie.spec
     Inv-loop
     μ-loop
-    nodes-by-label-requires
     pow2-requires
     cast-size
+    is-identity-requires
+    flags-by-node-requires
+    returns
+    nodes-by-label-requires
+    flags-by-node-requires-2
     loop-holds
-    mul-flag-of
-    array-copy-out-flag-of
-    flag-of-requires
+    mul-x
+    element-copy-out-x
+    cast-x
+    array-read-flags
     array-write-flags
     add-l
     loop-less
     loop-again
-    returns)
+    returns-2)
