@@ -12,7 +12,7 @@ use Rattle.history.specs.Held.{held, heldAfter}
 use Rattle.history.specs.Claims.{Bounded, HeldRight}
 use Rattle.history.proofs.Theorem.{history-right}
 use Rattle.allocator.specs.States.{freshState}
-use Rattle.cube.specs.Called.{setupNumber, setupRecord}
+use Rattle.cube.specs.Called.{setupNumber, setupRecord, delivered}
 use Rattle.cube.specs.Run.{Exchange, Exchanges, begin, _next_, fed, feed, heard, recordAfter, number, reply, heldAt, historyAt}
 use Rattle.cube.specs.Demand3.{Demand3}
 use Rattle.cube.proofs.View.{entry}
@@ -47,30 +47,30 @@ module _ (n : ℕ) (small : n ≤ 10) (b : List ℕ) (whole : length b ≡ 3088)
   bounded es = history-right n small (feed es) .bounded
 
   -- each call leaves the history's record, and is answered as the history says
-  stands : (es : Exchanges) → Stands n (historyAt n es) (recordAfter n b es)
+  stands : (es : Exchanges) → Stands n (historyAt n es) (recordAfter delivered n b es)
   stands begin = fresh-stands
-  stands (es next e) = answers n (historyAt n es) (recordAfter n b es) small (bounded es) (stands es) e .next
+  stands (es next e) = answers n (historyAt n es) (recordAfter delivered n b es) small (bounded es) (stands es) e .next
 
-  answered : (es : Exchanges) (e : Exchange) → Answers n (verdict n (historyAt n es) (fed e)) (historyAt n (es next e)) e (recordAfter n b es)
-  answered es e = answers n (historyAt n es) (recordAfter n b es) small (bounded es) (stands es) e
+  answered : (es : Exchanges) (e : Exchange) → Answers n (verdict n (historyAt n es) (fed e)) (historyAt n (es next e)) e (recordAfter delivered n b es)
+  answered es e = answers n (historyAt n es) (recordAfter delivered n b es) small (bounded es) (stands es) e
 
   -- what is heard of a call is its verdict, so the subcubes held are the history's
-  heard-is : (es : Exchanges) (e : Exchange) → heard (number n b es e) (reply n b es e) ≡ verdict n (historyAt n es) (fed e)
+  heard-is : (es : Exchanges) (e : Exchange) → heard (number delivered n b es e) (reply delivered n b es e) ≡ verdict n (historyAt n es) (fed e)
   heard-is es e =
       let A = answered es e in
       rw (A .returned, A .replied) (heard-back (verdict n (historyAt n es) (fed e)) (e .buffer) (A .plain))
 
-  held-is : (es : Exchanges) → heldAt n b es ≡ held (verdicts n fresh) [] (feed es)
+  held-is : (es : Exchanges) → heldAt delivered n b es ≡ held (verdicts n fresh) [] (feed es)
   held-is begin = refl
   held-is (es next e) = ap₂ (heldAfter (feed es) (fed e)) (heard-is es e) (held-is es)
 
-  right : Demand3 n b
+  right : Demand3 delivered n b
   right = record {
     set-up = accepted;
-    calls = λ es e. judged n (historyAt n es) e (recordAfter n b es) (history-right n small (feed es) .calls (fed e)) (answered es e);
+    calls = λ es e. judged n (historyAt n es) e (recordAfter delivered n b es) (history-right n small (feed es) .calls (fed e)) (answered es e);
     recorded = λ es. recorded small fresh-stands (bounded begin) (stands es) (bounded es);
     held = λ es. subst (HeldRight n fresh (feed es)) (sym (held-is es)) (history-right n small (feed es) .held-right);
   }
 
-pub demand3 : (n : ℕ) → n ≤ 10 → (b : List ℕ) → length b ≡ 3088 → Demand3 n b
+pub demand3 : (n : ℕ) → n ≤ 10 → (b : List ℕ) → length b ≡ 3088 → Demand3 delivered n b
 demand3 = right

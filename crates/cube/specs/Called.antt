@@ -49,3 +49,21 @@ pub record Called (r f p : List ℕ) (number : ℕ) (r′ p′ : List ℕ) : Typ
   pub returned : number ≡ callNumber r f p
   pub «record» : r′ ≡ callRecord r f p
   pub reply : p′ ≡ callReply r f p
+
+-- set-up and a frame call, as functions of the bytes lent
+pub record Program : Type 0 where
+  pub setup-number : List ℕ → ℕ → ℕ
+  pub setup-record : List ℕ → ℕ → List ℕ
+  pub call-number : List ℕ → List ℕ → List ℕ → ℕ
+  pub call-record : List ℕ → List ℕ → List ℕ → List ℕ
+  pub call-reply : List ℕ → List ℕ → List ℕ → List ℕ
+
+-- the one delivered: what the two contracts above say
+abbrev pub delivered : Program
+delivered = record {
+  setup-number = setupNumber;
+  setup-record = setupRecord;
+  call-number = callNumber;
+  call-record = callRecord;
+  call-reply = callReply;
+}

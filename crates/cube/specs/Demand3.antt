@@ -14,7 +14,7 @@ use Rattle.history.specs.Causes.{First, NoneMet, NoMemberFree, asked, earlier, 
 use Rattle.history.specs.Verdicts.{Verdict, granted, refused, tried, verdict}
 use Rattle.history.specs.Claims.{HeldRight}
 use Rattle.record.specs.Layout.{validRecord}
-use Rattle.cube.specs.Called.{setupNumber, setupRecord}
+use Rattle.cube.specs.Called.{Program}
 use Rattle.cube.specs.Run.{Exchange, Exchanges, begin, _next_, fed, feed, returns, replies, recordAfter, number, reply, heldAt, historyAt}
 
 -- a request is replied 'granted' with its job and the lowest node, star bits and place of the first free member of its family
@@ -52,9 +52,10 @@ pub record Recorded (n : ℕ) (h : History) (r₀ r : List ℕ) : Type 0 where
   pub holders-beyond : (x : ℕ) → 2 ^ n ≤ x → x < 1024 → word r (16 + 2 * x) ≡ word r₀ (16 + 2 * x)
   pub conditions-beyond : (x : ℕ) → 2 ^ n ≤ x → x < 1024 → getD r (2064 + x) 0 ≡ getD r₀ (2064 + x) 0
 
--- for a cube of dimension n set up on the buffer b: every list of calls, and every call after it
-pub record Demand3 (n : ℕ) (b : List ℕ) : Type 0 where
-  pub set-up : setupNumber b n ≡ 0
-  pub calls : (es : Exchanges) (e : Exchange) → Judged n (historyAt n es) e (number n b es e) (reply n b es e) (recordAfter n b es) (recordAfter n b (es next e))
-  pub recorded : (es : Exchanges) → Recorded n (historyAt n es) (setupRecord b n) (recordAfter n b es)
-  pub held : (es : Exchanges) → HeldRight n fresh (feed es) (heldAt n b es)
+-- of the program P, for a cube of dimension n set up on the buffer b: every list of calls, and every call after it
+pub record Demand3 (P : Program) (n : ℕ) (b : List ℕ) : Type 0 where
+  pub set-up : P .setup-number b n ≡ 0
+  pub calls : (es : Exchanges) (e : Exchange)
+      → Judged n (historyAt n es) e (number P n b es e) (reply P n b es e) (recordAfter P n b es) (recordAfter P n b (es next e))
+  pub recorded : (es : Exchanges) → Recorded n (historyAt n es) (P .setup-record b n) (recordAfter P n b es)
+  pub held : (es : Exchanges) → HeldRight n fresh (feed es) (heldAt P n b es)

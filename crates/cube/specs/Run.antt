@@ -11,7 +11,7 @@ use Rattle.history.specs.Verdicts.{Verdict, granted, refused, done, after}
 use Rattle.history.specs.Held.{Held, heldAfter}
 use Rattle.record.specs.Layout.{words}
 use Rattle.frames.specs.Answer.{written}
-use Rattle.cube.specs.Called.{setupRecord, callNumber, callRecord, callReply}
+use Rattle.cube.specs.Called.{Program}
 
 pub record Exchange : Type 0 where
   pub frame : List ℕ
@@ -49,18 +49,19 @@ heard number p =
     (cond (eqb (word p 2) 0x8001) (granted (word p 4) (word p 6) (word p 8) (word p 10)) (done (word p 4)))
     (cond (eqb number 2) (refused 2 0) (refused number (word p 6)))
 
-module _ (n : ℕ) (b : List ℕ) where
+-- the program P on a cube of dimension n
+module _ (P : Program) (n : ℕ) (b : List ℕ) where
   -- set-up on the buffer b, then each call gets the record that the last one left
   abbrev pub recordAfter : Exchanges → List ℕ
-  recordAfter begin = setupRecord b n
-  recordAfter (es next e) = callRecord (recordAfter es) (e .frame) (e .buffer)
+  recordAfter begin = P .setup-record b n
+  recordAfter (es next e) = P .call-record (recordAfter es) (e .frame) (e .buffer)
 
   -- what the call e is answered after the calls es
   abbrev pub number : Exchanges → Exchange → ℕ
-  number es e = callNumber (recordAfter es) (e .frame) (e .buffer)
+  number es e = P .call-number (recordAfter es) (e .frame) (e .buffer)
 
   abbrev pub reply : Exchanges → Exchange → List ℕ
-  reply es e = callReply (recordAfter es) (e .frame) (e .buffer)
+  reply es e = P .call-reply (recordAfter es) (e .frame) (e .buffer)
 
   -- "A held subcube is the one that a job was last granted, if no release by that job was accepted since", by what was replied
   abbrev pub heldAt : Exchanges → List Held
