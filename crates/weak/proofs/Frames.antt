@@ -1,0 +1,80 @@
+-- The few calls by which the six programs are refuted, and what the history says of them. Assumes nothing.
+use mathlib.Core.Path.{_≡_, refl}
+use mathlib.Core.List.{List, [], _∷_}
+use mathlib.Core.Logic.{Dec·and, Dec·not}
+use Prim.Native.Nat.{ℕ}
+use native.Mathlib.Decide.{ℕ-discrete, decLe, decLt}
+use Rattle.hypercube.specs.Lists.{over, some-of, among, countBelow}
+use Rattle.hypercube.specs.Labels.{label, node, size, assign}
+use Rattle.hypercube.specs.Subcubes.{vertices, freeAt}
+use Rattle.hypercube.specs.Families.{firstFree}
+use Rattle.hypercube.proofs.Decisions.{dec-or, dec-some, dec-every}
+use Rattle.history.specs.Calls.{request, word, kindOf, lengthField, kind, nodeField, job, dimension, strategy}
+use Rattle.history.specs.Causes.{causes}
+use Rattle.history.specs.Verdicts.{granted, refused, firstMet, decided, cause, accept, tell, step, verdict}
+use Rattle.allocator.specs.declared.Call.the-variants.{Good, Request}
+use Rattle.frames.specs.declared.Parsed.the-variants.{Known}
+use Rattle.frames.specs.Parse.{sized, byKind, parsed}
+use Rattle.cube.specs.Run.{Exchange, Exchanges, begin, _next_, fed, historyAt}
+
+-- a frame with twelve zeros to reply in
+abbrev exchange : List ℕ → Exchange
+exchange f = record { frame = f; buffer = 0 ∷ 0 ∷ 0 ∷ 0 ∷ 0 ∷ 0 ∷ 0 ∷ 0 ∷ 0 ∷ 0 ∷ 0 ∷ 0 ∷ [] }
+
+-- 'good' of node x; job j asks for one node, by buddy
+abbrev pub good : ℕ → Exchange
+good x = exchange (6 ∷ 0 ∷ 0x01 ∷ 0x01 ∷ x ∷ 0 ∷ [])
+
+abbrev pub asks : ℕ → Exchange
+asks j = exchange (8 ∷ 0 ∷ 0x01 ∷ 0x02 ∷ j ∷ 0 ∷ 0 ∷ 0 ∷ [])
+
+-- one node, or two, good
+abbrev pub one : Exchanges
+one = begin next good 0
+
+abbrev pub two : Exchanges
+two = begin next good 0 next good 1
+
+pub parsed-0 : parsed (good 0 .frame) ≡ Known (Good (record { 0 = 0 }))
+unfolding parsed byKind sized word kindOf
+parsed-0 = refl
+
+pub parsed-1 : parsed (good 1 .frame) ≡ Known (Good (record { 0 = 1 }))
+unfolding parsed byKind sized word kindOf
+parsed-1 = refl
+
+pub parsed-job-1 : parsed (asks 1 .frame) ≡ Known (Request 1 0 0)
+unfolding parsed byKind sized word kindOf
+parsed-job-1 = refl
+
+pub parsed-job-2 : parsed (asks 2 .frame) ≡ Known (Request 2 0 0)
+unfolding parsed byKind sized word kindOf
+parsed-job-2 = refl
+
+pub requests : kind (fed (asks 1)) ≡ request
+unfolding kind word kindOf
+requests = refl
+
+-- what the history says: a silent node is not granted; a good one is, and is held; of two the second is the second tried
+pub record Told : Type 0 where
+  pub silent : verdict 0 (historyAt 0 begin) (fed (asks 1)) ≡ refused 14 1
+  pub one-granted : verdict 0 (historyAt 0 one) (fed (asks 1)) ≡ granted 1 0 0 1
+  pub one-held : historyAt 0 (one next asks 1) .holder 0 ≡ 1
+  pub one-free : historyAt 0 one .holder 0 ≡ 0
+  pub none-held : (historyAt 1 two .holder 0 ≡ 0) × (historyAt 1 two .holder 1 ≡ 0)
+  pub first-held : (historyAt 1 (two next asks 1) .holder 0 ≡ 1) × (historyAt 1 (two next asks 1) .holder 1 ≡ 0)
+  pub second-granted : verdict 1 (historyAt 1 (two next asks 1)) (fed (asks 2)) ≡ granted 2 1 0 2
+  pub second-held : historyAt 1 (two next asks 1 next asks 2) .holder 1 ≡ 2
+
+pub told : Told
+unfolding over some-of label node size assign vertices freeAt firstFree dec-or dec-some dec-every word kindOf lengthField kind nodeField job dimension strategy among countBelow causes firstMet decided cause accept tell step verdict Dec·and Dec·not ℕ-discrete decLe decLt
+told = record {
+  silent = refl;
+  one-granted = refl;
+  one-held = refl;
+  one-free = refl;
+  none-held = (refl, refl);
+  first-held = (refl, refl);
+  second-granted = refl;
+  second-held = refl;
+}

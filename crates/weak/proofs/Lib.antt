@@ -1,0 +1,4 @@
+-- Calls made by hand; what a program made of its requests answers; and that each of the six is refuted.
+pub mod Frames
+pub mod Made
+pub mod Refuted

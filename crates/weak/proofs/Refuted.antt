@@ -1,0 +1,257 @@
+-- Each of the six breaks the part of the demands that document 01's table names, on every buffer of the record's size. Assumes nothing.
+use Prim.Native.Nat.{ℕ, _+_, _*_, _^_, _<_, _≤_}
+use mathlib.Core.Path.{_≡_, refl, sym, ap, ap₂, _∙_}
+use mathlib.Core.Logic.{inl}
+use mathlib.Core.Bool.{true, false, not, cond, _||_}
+use mathlib.Core.List.{List, [], _∷_, _++_}
+use native.Mathlib.Omega.{arith}
+use native.Mathlib.Nat.{lt-of-lt-of-le}
+use borrow.Author.Tests.{ne-eqb}
+use lib.Dec.{eqb}
+use lib.ListN.{length, getD}
+use lib.Pow.{pow-pos}
+use Rattle.hypercube.specs.Bits.{width}
+use Rattle.hypercube.specs.Lists.{over, among}
+use Rattle.hypercube.specs.Subcubes.{vertices}
+use Rattle.history.specs.Calls.{Call, word, strategy, dimension}
+use Rattle.history.specs.Account.{History}
+use Rattle.history.specs.Causes.{Row, NoneMet, earlier, last, causes}
+use Rattle.history.specs.Verdicts.{granted}
+use Rattle.history.specs.Held.{without}
+use Rattle.history.proofs.Passed.{passed}
+use Rattle.allocator.specs.declared.State.{State}
+use Rattle.allocator.specs.declared.Call.the-variants.{Request}
+use Rattle.allocator.specs.declared.Reply.{Reply}
+use Rattle.allocator.specs.declared.Reply.the-variants.{Granted, Refused, Done}
+use Rattle.allocator.specs.States.{withHolders, given}
+use Rattle.allocator.specs.Valid.{anyBelow, Valid}
+use Rattle.allocator.specs.Acts.{numberOf, anyHeld, requestStep}
+use Rattle.allocator.proofs.Valid.{means-valid}
+use Rattle.record.specs.Layout.{words, encode, decode, validRecord}
+use Rattle.frames.specs.Answer.{frameOf, written}
+use Rattle.record.proofs.Round.{Sized, length-each, getD-each, decode-holder, sized-decode, encode-holder, valid-encode}
+use Rattle.frames.specs.declared.Parsed.the-variants.{Known}
+use Rattle.frames.specs.Parse.{parsed}
+use Rattle.cube.specs.Called.{delivered}
+use Rattle.cube.specs.Run.{Exchanges, begin, _next_, fed, returns, replies, heard, recordAfter, number, reply, historyAt}
+use Rattle.cube.specs.Demand3.{Demand3}
+use Rattle.cube.proofs.Ways.{state-valid}
+use Rattle.cube.proofs.Heard.{heard-back}
+use Rattle.cube.proofs.Theorem.{demand3}
+use Rattle.weak.specs.Programs.{Requests, by, answers14, unstarted, lowest, unrecorded, firstJob, plausible, anyTried}
+use Rattle.weak.specs.Parts.{NoneFreeRight, RefusalRight, HeldDisjoint, HoldersRight, ReplyRight, Refuted}
+use Rattle.weak.proofs.Frames.{good, asks, one, two, parsed-0, parsed-1, parsed-job-1, parsed-job-2, requests, told}
+use Rattle.weak.proofs.Made.{reported, number-is, reply-is, record-is, delivered-number, delivered-reply, same-record}
+
+-- rows before others are not met where none is
+front : (h : History) (c : Call) (rs ts : List Row) → NoneMet (rs ++ ts) h c → NoneMet rs h c
+front h c [] ts m = tt
+front h c (r ∷ rs) ts m = (m .0, front h c rs ts (m .1))
+
+earlier-none : (n : ℕ) (h : History) (c : Call) → NoneMet (causes n) h c → NoneMet (earlier n) h c
+unfolding causes
+earlier-none n h c m = front h c (earlier n) (last n ∷ []) m
+
+-- a node other than 0 is not of the subcube of node 0 alone
+elsewhere : (x : ℕ) → 0 < x → among x (vertices width 0 0) ≡ false
+unfolding among vertices
+elsewhere x h = rw (ne-eqb x 0 (λ z. absurd (omega arith)))
+
+-- a state with node 0 given to a job
+stays-valid : (s : State) → Sized s → Valid s → (j : ℕ) → validRecord (encode (withHolders s (given (s .holders) (vertices width 0 0) j))) ≡ true
+stays-valid s z v j =
+    valid-encode t sized ∙ means-valid t (z .directions) .shows record {
+      small = v .small;
+      permutes = v .permutes;
+      conditions = v .conditions;
+      no-conditions = v .no-conditions;
+      no-holders = λ x h l. getD-each (λ x. cond (among x (vertices width 0 0)) j (getD (s .holders) x 0)) 1024 x l ∙ other x h ∙ v .no-holders x h l;
+    }
+  where
+    t : State
+    t = withHolders s (given (s .holders) (vertices width 0 0) j)
+
+    sized : Sized t
+    sized = record { directions = z .directions; holders = length-each _ 1024; conditions = z .conditions }
+
+    other : (x : ℕ) → 2 ^ s .n ≤ x → cond (among x (vertices width 0 0)) j (getD (s .holders) x 0) ≡ getD (s .holders) x 0
+    other x h = rw (elsewhere x (lt-of-lt-of-le (pow-pos (s .n)) h))
+
+dimension-of : (r : List ℕ) → decode r .n ≡ getD r 4 0
+unfolding decode
+dimension-of r = refl
+
+-- a plausible 'tried' keeps the number, and is not the true one of the second member
+same-number : (a : Reply) → numberOf (plausible a) ≡ numberOf a
+same-number (Granted j low stars t) = refl
+same-number (Refused m t) = refl
+same-number (Done v) = refl
+
+tried-two : (a : Reply) (p : List ℕ) → written (frameOf a) p ≡ replies (granted 2 1 0 2) p → written (frameOf (plausible a)) p ≡ replies (granted 2 1 0 2) p → ⊥
+unfolding frameOf words word
+tried-two (Granted j low stars t) p e w = let same : _≡_ {A = ℕ} 1 2 = ap (λ (p : List ℕ). word p 10) w in absurd (omega arith)
+tried-two (Refused m t) p e w = let same : _≡_ {A = ℕ} 0x8002 0x8001 = ap (λ (p : List ℕ). word p 2) e in absurd (omega arith)
+tried-two (Done v) p e w = let same : _≡_ {A = ℕ} 0x8003 0x8001 = ap (λ (p : List ℕ). word p 2) e in absurd (omega arith)
+
+-- whether a node of two is held
+module _ (s : State) (n : s .n ≡ 1) where
+  two-of : anyHeld s ≡ (not (eqb (getD (s .holders) 0 0) 0) || not (eqb (getD (s .holders) 1 0) 0))
+  unfolding anyBelow
+  two-of = rw n
+
+  of-two : getD (s .holders) 0 0 ≡ 0 → getD (s .holders) 1 0 ≡ 0 → anyHeld s ≡ false
+  of-two h k = rw (two-of, h, k)
+
+  one-of : getD (s .holders) 0 0 ≡ 1 → anyHeld s ≡ true
+  one-of h = rw (two-of, h)
+
+module _ (b : List ℕ) (whole : length b ≡ 3088) where
+  one-node : Demand3 delivered 0 b
+  one-node = demand3 0 (omega arith) b whole
+
+  two-nodes : Demand3 delivered 1 b
+  two-nodes = demand3 1 (omega arith) b whole
+
+  -- the record before the first request is the delivered program's
+  module _ (q : Requests) where
+    at-one : recordAfter (by q) 0 b one ≡ recordAfter delivered 0 b one
+    at-one = reported q _ (good 0 .frame) (good 0 .buffer) 0 parsed-0
+
+    at-first : recordAfter (by q) 1 b (begin next good 0) ≡ recordAfter delivered 1 b (begin next good 0)
+    at-first = reported q _ (good 0 .frame) (good 0 .buffer) 0 parsed-0
+
+    at-two : recordAfter (by q) 1 b two ≡ recordAfter delivered 1 b two
+    at-two = reported q _ (good 1 .frame) (good 1 .buffer) 1 parsed-1 ∙ ap (λ (r : List ℕ). delivered .call-record r (good 1 .frame) (good 1 .buffer)) at-first
+
+    valid-one : validRecord (recordAfter (by q) 0 b one) ≡ true
+    valid-one = rw at-one (one-node .recorded one .valid)
+
+    -- and after it, where it is told the same number and leaves the same state
+    module _ (s : State) (e : decode (recordAfter (by q) 1 b two) ≡ s) (a : numberOf (q s 1 0 0 .reply) ≡ numberOf (requestStep s 1 0 0 .reply))
+        (left : q s 1 0 0 .state ≡ requestStep s 1 0 0 .state) where
+      at-later : recordAfter (by q) 1 b (two next asks 1) ≡ recordAfter delivered 1 b (two next asks 1)
+      at-later =
+          same-record q _ (asks 1 .frame) (asks 1 .buffer) 1 parsed-job-1 (rw at-two (two-nodes .recorded two .valid)) refl (rw e a) (rw e left)
+          ∙ ap (λ (r : List ℕ). delivered .call-record r (asks 1 .frame) (asks 1 .buffer)) at-two
+
+      valid-later : validRecord (recordAfter (by q) 1 b (two next asks 1)) ≡ true
+      valid-later = rw at-later (two-nodes .recorded (two next asks 1) .valid)
+
+  -- ---- a free member exists
+
+  none-met : NoneMet (causes 0) (historyAt 0 one) (fed (asks 1))
+  none-met = one-node .calls one (asks 1) .accepted-by-none .0 (one-node .calls one (asks 1) .returned ∙ ap returns (told .one-granted))
+
+  says-14 : (q : Requests) → ((s : State) → numberOf (q s 1 0 0 .reply) ≡ 14) → ¬ NoneFreeRight (by q) 0 b
+  says-14 q e claim =
+      passed 0 (historyAt 0 one) (fed (asks 1)) none-met .some-free requests
+      (claim one (asks 1) requests (earlier-none 0 _ _ none-met) (number-is q _ (asks 1 .frame) (asks 1 .buffer) 1 parsed-job-1 (valid-one q) refl ∙ e _))
+
+  -- ---- 'tried' of a walk unstarted
+
+  tried-wrong : ¬ RefusalRight (by unstarted) 0 b
+  unfolding word words frameOf over strategy dimension
+  tried-wrong claim =
+      let refuses = one-node .calls begin (asks 1) .refused-by-first 14 (λ z. absurd (omega arith)) .0 (one-node .calls begin (asks 1) .returned ∙ ap returns (told .silent)) in
+      let said = reply-is unstarted _ (asks 1 .frame) (asks 1 .buffer) 1 parsed-job-1 (one-node .recorded begin .valid) refl in
+      let same : _≡_ {A = ℕ} 0 1 = ap (λ (p : List ℕ). word p 6) (sym said ∙ claim begin (asks 1) 14 refuses) in
+      absurd (omega arith)
+
+  -- ---- disjoint
+
+  told-lowest : (es : Exchanges) → validRecord (recordAfter (by lowest) 0 b es) ≡ true → (j : ℕ) → parsed (asks j .frame) ≡ Known (Request j 0 0)
+      → heard (number (by lowest) 0 b es (asks j)) (reply (by lowest) 0 b es (asks j)) ≡ granted j 0 0 1
+  unfolding frameOf
+  told-lowest es v j e =
+      ap₂ heard (number-is lowest _ (asks j .frame) (asks j .buffer) j e v refl) (reply-is lowest _ (asks j .frame) (asks j .buffer) j e v refl)
+      ∙ heard-back (granted j 0 0 1) (asks j .buffer) tt
+
+  valid-next : validRecord (recordAfter (by lowest) 0 b (one next asks 1)) ≡ true
+  valid-next =
+      let r = recordAfter (by lowest) 0 b one in
+      rw (record-is lowest r (asks 1 .frame) (asks 1 .buffer) 1 parsed-job-1 (valid-one lowest) refl refl)
+      (stays-valid (decode r) (sized-decode r) (state-valid r (valid-one lowest)) 1)
+
+  lowest-wrong : ¬ HeldDisjoint (by lowest) 0 b
+  unfolding without vertices
+  lowest-wrong claim =
+      let d = rw (told-lowest one (valid-one lowest) 1 parsed-job-1, told-lowest (one next asks 1) valid-next 2 parsed-job-2) at (claim (one next asks 1 next asks 2)) in
+      d .0 _ (inl refl) 0 (inl refl) (inl refl)
+
+  -- ---- the record after the call
+
+  -- a record that is stored as it was has the holders that it had
+  kept : (r : List ℕ) (x : ℕ) → x < 1024 → word (encode (decode r)) (16 + 2 * x) ≡ word r (16 + 2 * x)
+  kept r x h = encode-holder (decode r) (sized-decode r) x h ∙ decode-holder r x h
+
+  record-wrong : ¬ HoldersRight (by unrecorded) 0 b
+  record-wrong claim =
+      let r = recordAfter (by unrecorded) 0 b one in
+      let v = valid-one unrecorded in
+      let accepted : numberOf (requestStep (decode r) 1 0 0 .reply) ≡ 0 =
+      sym (delivered-number unrecorded r (asks 1 .frame) (asks 1 .buffer) 1 parsed-job-1 v refl)
+      ∙ ap (λ (r : List ℕ). delivered .call-number r (asks 1 .frame) (asks 1 .buffer)) (at-one unrecorded)
+      ∙ one-node .calls one (asks 1) .returned ∙ ap returns (told .one-granted) in
+      let left : word (recordAfter (by unrecorded) 0 b (one next asks 1)) 16 ≡ 0 =
+      ap (λ (r : List ℕ). word r 16) (record-is unrecorded r (asks 1 .frame) (asks 1 .buffer) 1 parsed-job-1 v refl accepted)
+      ∙ kept r 0 (omega arith) ∙ ap (λ (r : List ℕ). word r 16) (at-one unrecorded) ∙ one-node .recorded one .holders 0 (omega arith) ∙ told .one-free in
+      let same : _≡_ {A = ℕ} 0 1 = sym left ∙ claim (one next asks 1) 0 (omega arith) ∙ told .one-held in
+      absurd (omega arith)
+
+  -- ---- over the list
+
+  over-list-wrong : ¬ HoldersRight (by firstJob) 1 b
+  over-list-wrong claim =
+      let later = two next asks 1 in
+      let g = asks 2 .frame in
+      let p = asks 2 .buffer in
+      let before = two-nodes .recorded two in
+      let after = two-nodes .recorded later in
+      let none : anyHeld (decode (recordAfter (by firstJob) 1 b two)) ≡ false =
+      rw (at-two firstJob)
+      (of-two (decode (recordAfter delivered 1 b two)) (dimension-of _ ∙ before .dimension)
+      (decode-holder _ 0 (omega arith) ∙ before .holders 0 (omega arith) ∙ told .none-held .0)
+      (decode-holder _ 1 (omega arith) ∙ before .holders 1 (omega arith) ∙ told .none-held .1)) in
+      let same = at-later firstJob _ refl (rw none refl) (rw none refl) in
+      let v = valid-later firstJob _ refl (rw none refl) (rw none refl) in
+      let r = recordAfter (by firstJob) 1 b later in
+      let some : anyHeld (decode r) ≡ true =
+      rw same
+      (one-of (decode (recordAfter delivered 1 b later)) (dimension-of _ ∙ after .dimension)
+      (decode-holder _ 0 (omega arith) ∙ after .holders 0 (omega arith) ∙ told .first-held .0)) in
+      let accepted : numberOf (firstJob (decode r) 2 0 0 .reply) ≡ 0 =
+      (rw some refl) ∙ sym (delivered-number firstJob r g p 2 parsed-job-2 v refl) ∙ ap (λ (r : List ℕ). delivered .call-number r g p) same
+      ∙ two-nodes .calls later (asks 2) .returned ∙ ap returns (told .second-granted) in
+      let left : word (recordAfter (by firstJob) 1 b (later next asks 2)) 18 ≡ 0 =
+      ap (λ (r : List ℕ). word r 18) (record-is firstJob r g p 2 parsed-job-2 v refl accepted) ∙ (rw some (kept r 1 (omega arith)))
+      ∙ ap (λ (r : List ℕ). word r 18) same ∙ after .holders 1 (omega arith) ∙ told .first-held .1 in
+      let wrong : _≡_ {A = ℕ} 0 2 = sym left ∙ claim (later next asks 2) 1 (omega arith) ∙ told .second-held in
+      absurd (omega arith)
+
+  -- ---- place in the order
+
+  tried-of-two : ¬ ReplyRight (by anyTried) 1 b
+  tried-of-two claim =
+      let later = two next asks 1 in
+      let g = asks 2 .frame in
+      let p = asks 2 .buffer in
+      let number = same-number (requestStep (decode (recordAfter (by anyTried) 1 b two)) 1 0 0 .reply) in
+      let same = at-later anyTried _ refl number refl in
+      let v = valid-later anyTried _ refl number refl in
+      let r = recordAfter (by anyTried) 1 b later in
+      let right = ap (λ v. replies v p) (told .second-granted) in
+      tried-two (requestStep (decode r) 2 0 0 .reply) p
+      (sym (delivered-reply anyTried r g p 2 parsed-job-2 v refl) ∙ ap (λ (r : List ℕ). delivered .call-reply r g p) same
+      ∙ two-nodes .calls later (asks 2) .replied ∙ right)
+      (sym (reply-is anyTried r g p 2 parsed-job-2 v refl) ∙ claim later (asks 2) ∙ right)
+
+  pub refuted : Refuted b
+  refuted = record {
+    a-free-member-exists = says-14 answers14 (λ s. refl);
+    unstarted-free = says-14 unstarted (λ s. refl);
+    unstarted-tried = tried-wrong;
+    not-disjoint = lowest-wrong;
+    record-unchanged = record-wrong;
+    over-the-list = over-list-wrong;
+    place-in-the-order = tried-of-two;
+  }

@@ -1,0 +1,46 @@
+-- The parts of the demands that the right-hand column of document 01's table names, as claims about a program, and that the six break them.
+use Prim.Native.Nat.{ℕ, _+_, _*_, _^_, _<_}
+use mathlib.Core.Path.{_≡_}
+use mathlib.Core.List.{List}
+use Rattle.history.specs.Calls.{request, kind, word}
+use Rattle.history.specs.Causes.{First, NoneMet, NoMemberFree, earlier, causes}
+use Rattle.history.specs.Verdicts.{refused, tried, verdict}
+use Rattle.history.specs.Held.{Disjoint}
+use Rattle.cube.specs.Called.{Program}
+use Rattle.cube.specs.Run.{Exchange, Exchanges, fed, replies, recordAfter, number, reply, heldAt, historyAt}
+use Rattle.weak.specs.Programs.{by, answers14, unstarted, lowest, unrecorded, firstJob, anyTried}
+
+module _ (P : Program) (n : ℕ) (b : List ℕ) where
+  -- 3: 'none free' is said only where no member is free
+  abbrev pub NoneFreeRight : Type 0
+  NoneFreeRight =
+      (es : Exchanges) (e : Exchange) → kind (fed e) ≡ request → NoneMet (earlier n) (historyAt n es) (fed e) → number P n b es e ≡ 14
+      → NoMemberFree n (historyAt n es) (fed e)
+
+  -- 2 for tried: a refusal's reply has its number and what was tried
+  abbrev pub RefusalRight : Type 0
+  RefusalRight =
+      (es : Exchanges) (e : Exchange) (q : ℕ) → First (causes n) (historyAt n es) (fed e) q
+      → reply P n b es e ≡ replies (refused q (tried n (fed e) q)) (e .buffer)
+
+  -- 3: disjoint
+  abbrev pub HeldDisjoint : Type 0
+  HeldDisjoint = (es : Exchanges) → Disjoint (heldAt P n b es)
+
+  -- 2: record after the call; 3: over the list
+  abbrev pub HoldersRight : Type 0
+  HoldersRight = (es : Exchanges) (x : ℕ) → x < 2 ^ n → word (recordAfter P n b es) (16 + 2 * x) ≡ historyAt n es .holder x
+
+  -- 2: place in the order
+  abbrev pub ReplyRight : Type 0
+  ReplyRight = (es : Exchanges) (e : Exchange) → reply P n b es e ≡ replies (verdict n (historyAt n es) (fed e)) (e .buffer)
+
+-- on any buffer of the record's size, b
+pub record Refuted (b : List ℕ) : Type 0 where
+  pub a-free-member-exists : ¬ NoneFreeRight (by answers14) 0 b
+  pub unstarted-free : ¬ NoneFreeRight (by unstarted) 0 b
+  pub unstarted-tried : ¬ RefusalRight (by unstarted) 0 b
+  pub not-disjoint : ¬ HeldDisjoint (by lowest) 0 b
+  pub record-unchanged : ¬ HoldersRight (by unrecorded) 0 b
+  pub over-the-list : ¬ HoldersRight (by firstJob) 1 b
+  pub place-in-the-order : ¬ ReplyRight (by anyTried) 1 b

@@ -1,0 +1,83 @@
+-- Document 01, "Programs that would pass a weak contract". Each differs from the delivered program in what it does on a request.
+use Prim.Native.Nat.{ℕ, _-_, _^_}
+use mathlib.Core.Bool.{cond}
+use mathlib.Core.List.{List}
+use lib.Dec.{eqb, ltb}
+use lib.ListN.{length}
+use Rattle.hypercube.specs.Bits.{width}
+use Rattle.hypercube.specs.Subcubes.{vertices}
+use Rattle.hypercube.specs.Families.{family}
+use Rattle.allocator.specs.declared.State.{State}
+use Rattle.allocator.specs.declared.Call.{Call}
+use Rattle.allocator.specs.declared.Call.the-variants.{Good, Fault, Repaired, Relabel, Request, Release}
+use Rattle.allocator.specs.declared.Reply.{Reply}
+use Rattle.allocator.specs.declared.Reply.the-variants.{Granted, Refused, Done}
+use Rattle.allocator.specs.declared.Step.{Step}
+use Rattle.allocator.specs.States.{withHolders, given}
+use Rattle.allocator.specs.Acts.{numberOf, step, refuse, anyHeld, requestStep, acted}
+use Rattle.record.specs.Layout.{encode, decode, validRecord}
+use Rattle.frames.specs.declared.Parsed.{Parsed}
+use Rattle.frames.specs.declared.Parsed.the-variants.{Known, Bad}
+use Rattle.frames.specs.Parse.{parsed}
+use Rattle.frames.specs.Answer.{frameOf, written}
+use Rattle.cube.specs.Called.{Program, setupNumber, setupRecord}
+
+-- what a request by job j for dimension k under strategy f does to a state
+abbrev pub Requests : Type 0
+Requests = State → ℕ → ℕ → ℕ → Step
+
+-- the program that does this on a request, and is otherwise the delivered one
+abbrev pub actedBy : Requests → State → Call → Step
+actedBy q s (Good x) = acted s (Good x)
+actedBy q s (Fault x) = acted s (Fault x)
+actedBy q s (Repaired x) = acted s (Repaired x)
+actedBy q s Relabel = acted s Relabel
+actedBy q s (Request j k f) = q s j k f
+actedBy q s (Release j) = acted s (Release j)
+
+abbrev pub stepBy : Requests → State → Parsed → Step
+stepBy q s (Known c) = actedBy q s c
+stepBy q s (Bad m) = refuse s m
+
+unfoldable pub numberBy : Requests → List ℕ → List ℕ → List ℕ → ℕ
+numberBy q r f p = cond (validRecord r) (cond (ltb (length p) 12) 2 (numberOf (stepBy q (decode r) (parsed f) .reply))) 1
+
+unfoldable pub recordBy : Requests → List ℕ → List ℕ → List ℕ → List ℕ
+recordBy q r f p = cond (eqb (numberBy q r f p) 0) (encode (stepBy q (decode r) (parsed f) .state)) r
+
+unfoldable pub replyBy : Requests → List ℕ → List ℕ → List ℕ → List ℕ
+replyBy q r f p = cond (validRecord r) (cond (ltb (length p) 12) p (written (frameOf (stepBy q (decode r) (parsed f) .reply)) p)) p
+
+abbrev pub by : Requests → Program
+by q = record { setup-number = setupNumber; setup-record = setupRecord; call-number = numberBy q; call-record = recordBy q; call-reply = replyBy q }
+
+-- "answers 14 to each request"
+abbrev pub answers14 : Requests
+answers14 s j k f = step s (Refused 14 (length (family f (s .n) k)))
+
+-- "says 'none free' with the walk unstarted"
+abbrev pub unstarted : Requests
+unstarted s j k f = step s (Refused 14 0)
+
+-- "grants the lowest subcube to everybody"
+abbrev pub lowest : Requests
+lowest s j k f =
+    let stars = 2 ^ k - 1 in
+    step (withHolders s (given (s .holders) (vertices width stars 0) j)) (Granted j (record { 0 = 0 }) stars 1)
+
+-- "replies 'granted', record unchanged"
+abbrev pub unrecorded : Requests
+unrecorded s j k f = step s (requestStep s j k f .reply)
+
+-- "tracks the first job, later ones only in replies"
+abbrev pub firstJob : Requests
+firstJob s j k f = cond (anyHeld s) (unrecorded s j k f) (requestStep s j k f)
+
+-- "prints a plausible tried"
+abbrev pub plausible : Reply → Reply
+plausible (Granted j low stars t) = Granted j low stars 1
+plausible (Refused m t) = Refused m t
+plausible (Done v) = Done v
+
+abbrev pub anyTried : Requests
+anyTried s j k f = step (requestStep s j k f .state) (plausible (requestStep s j k f .reply))
