@@ -18,22 +18,38 @@ pub fn run(input: impl Read, output: impl Write) -> io::Result<Tally> {
 
 /// As `run`, but reads no further after `most` frames.
 pub fn run_up_to(most: u32, input: impl Read, output: impl Write) -> io::Result<Tally> {
+    run_on(&mut [0; SIZE], most, input, output)
+}
+
+/// The record that a log leaves; all zero if it has no right set-up.
+pub fn record_after(input: impl Read) -> io::Result<Record> {
+    let mut record = [0; SIZE];
+    run_on(&mut record, u32::MAX, input, io::sink())?;
+    Ok(record)
+}
+
+fn run_on(
+    record: &mut Record,
+    most: u32,
+    input: impl Read,
+    output: impl Write,
+) -> io::Result<Tally> {
     let mut input = BufReader::with_capacity(1 << 16, input);
     let mut output = BufWriter::with_capacity(1 << 16, output);
     let mut tally = Tally::default();
-    read_log(most, &mut input, &mut output, &mut tally)?;
+    read_log(record, most, &mut input, &mut output, &mut tally)?;
     writeln!(output, "{tally}")?;
     output.flush()?;
     Ok(tally)
 }
 
 fn read_log(
+    record: &mut Record,
     most: u32,
     input: &mut impl Read,
     output: &mut impl Write,
     tally: &mut Tally,
 ) -> io::Result<()> {
-    let mut record: Record = [0; SIZE];
     let mut bytes = vec![0; 1 << 16];
     let mut place = 0;
     while place < most {
@@ -42,7 +58,7 @@ fn read_log(
         let (reply, goes_on) = match next {
             Next::End => break,
             Next::Broken => (Reply::refuse(3), false),
-            Next::Frame(frame) if place == 1 => match first(frame, &mut record) {
+            Next::Frame(frame) if place == 1 => match first(frame, record) {
                 Ok(n) => {
                     tally.add_setup();
                     writeln!(output, "1 setup {n}")?;
@@ -50,7 +66,7 @@ fn read_log(
                 }
                 Err(number) => (Reply::refuse(number), false),
             },
-            Next::Frame(frame) => (later(frame, &mut record), true),
+            Next::Frame(frame) => (later(frame, record), true),
         };
         tally.add_reply(&reply);
         print(output, place, &reply)?;

@@ -3,7 +3,7 @@
 use std::io::{self, Read, Write};
 use std::process::{Command, Stdio};
 
-use cube_reference::log::{run, run_up_to};
+use cube_reference::log::{record_after, run, run_up_to};
 use cube_reference::{Reply, Tally};
 
 use crate::support::*;
@@ -50,6 +50,16 @@ fn the_example_by_cube_ref() {
     let output = program.wait_with_output().unwrap();
     assert!(output.status.success());
     assert_eq!(String::from_utf8(output.stdout).unwrap(), EXAMPLE_OUTPUT);
+}
+
+/// Job 7 holds node 0, which is good; node 1 is faulty.
+#[test]
+fn the_record_that_the_example_leaves() {
+    let mut expected = [0; 3088];
+    expected[..16].copy_from_slice(&[0x10, 0x0c, 1, 0, 1, 1, 2, 3, 4, 5, 6, 7, 8, 9, 10, 0]);
+    expected[16] = 7;
+    expected[2064..2066].copy_from_slice(&[1, 2]);
+    assert!(record_after(&bytes(EXAMPLE)[..]).unwrap() == expected);
 }
 
 #[test]

@@ -1,0 +1,172 @@
+#include "store.h"
+
+#include <errno.h>
+#include <fcntl.h>
+#include <libgen.h>
+#include <stdbool.h>
+#include <stdio.h>
+#include <string.h>
+#include <sys/file.h>
+#include <unistd.h>
+
+#include "cube.h"
+#include "fail.h"
+
+/* FNV-1a over all that stands before the checksum. It sees every change of a
+ * single byte, also of a holder's, where any bytes make a record. */
+static uint64_t checksum(const uint8_t *bytes)
+{
+    uint64_t sum = 0xcbf29ce484222325;
+    for (size_t i = 0; i < CHECKSUM_AT; i++)
+        sum = (sum ^ bytes[i]) * 0x100000001b3;
+    return sum;
+}
+
+static void name(char path[PATH_MAX], const char *file, const char *end)
+{
+    if (snprintf(path, PATH_MAX, "%s%s", file, end) >= PATH_MAX)
+        fail(WRONG_ARGUMENTS, file, "the path is too long");
+}
+
+static int open_folder(const char *file)
+{
+    char path[PATH_MAX];
+    name(path, file, "");
+    const char *folder = dirname(path);
+    int opened = open(folder, O_RDONLY | O_DIRECTORY | O_CLOEXEC);
+    if (opened < 0)
+        fail_errno(folder, "open");
+    return opened;
+}
+
+/* One daemon for each file. The lock goes with the process, however it ends;
+ * it has a file of its own because the machine's is replaced. */
+static int take_lock(const char *file)
+{
+    char path[PATH_MAX];
+    name(path, file, ".lock");
+    int lock = open(path, O_RDWR | O_CREAT | O_CLOEXEC, 0600);
+    if (lock < 0)
+        fail_errno(path, "open");
+    if (flock(lock, LOCK_EX | LOCK_NB) == 0)
+        return lock;
+    if (errno == EWOULDBLOCK)
+        fail(SYSTEM_ERROR, file, "another cube-host has it");
+    fail_errno(path, "lock");
+}
+
+/* Reads until the buffer is full or the file ends; gives how many bytes. */
+static size_t read_all(int file, uint8_t *bytes, size_t size, const char *path)
+{
+    size_t filled = 0;
+    while (filled < size) {
+        ssize_t count = read(file, bytes + filled, size - filled);
+        if (count == 0)
+            break;
+        if (count > 0)
+            filled += (size_t)count;
+        else if (errno != EINTR)
+            fail_errno(path, "read");
+    }
+    return filled;
+}
+
+/* Whether there is a file; if so its bytes are taken, all tests passed. That
+ * the record is one is the library's to say: an empty frame gets 1 from it or
+ * 3, and changes nothing. */
+static bool load(struct store *store)
+{
+    uint8_t bytes[STORED_SIZE + 1], reply[REPLY_SIZE];
+    int file = open(store->file, O_RDONLY | O_CLOEXEC);
+    if (file < 0 && errno == ENOENT)
+        return false;
+    if (file < 0)
+        fail_errno(store->file, "open");
+    size_t size = read_all(file, bytes, sizeof bytes, store->file);
+    close(file);
+    if (size != STORED_SIZE)
+        fail(REFUSED_BY_NUMBER, store->file, "refused 1: the file hasn't %d bytes", STORED_SIZE);
+    if (cube_call(bytes, RECORD_SIZE, bytes + RECORD_SIZE, 0, reply, sizeof reply) == 1)
+        fail(REFUSED_BY_NUMBER, store->file, "refused 1: what the file holds is not a record");
+    if (number(bytes + CHECKSUM_AT) != checksum(bytes))
+        fail(REFUSED_BY_NUMBER, store->file, "refused 1: the checksum is not that of the file");
+    memcpy(store->bytes, bytes, STORED_SIZE);
+    return true;
+}
+
+static bool write_all(int file, const uint8_t *bytes, size_t size)
+{
+    size_t written = 0;
+    while (written < size) {
+        ssize_t count = write(file, bytes + written, size - written);
+        if (count < 0 && errno != EINTR)
+            return false;
+        if (count > 0)
+            written += (size_t)count;
+    }
+    return true;
+}
+
+/* Replaces the file whole: written beside, synced, renamed, the folder synced. */
+static void save(struct store *store)
+{
+    put_number(store->bytes + CHECKSUM_AT, checksum(store->bytes));
+    int file = open(store->beside, O_WRONLY | O_CREAT | O_TRUNC | O_CLOEXEC, 0600);
+    if (file < 0)
+        fail_errno(store->beside, "open");
+    if (!write_all(file, store->bytes, STORED_SIZE) || fsync(file) != 0) {
+        int reason = errno;
+        unlink(store->beside);
+        errno = reason;
+        fail_errno(store->beside, "write");
+    }
+    close(file);
+    if (rename(store->beside, store->file) != 0)
+        fail_errno(store->file, "replace");
+    if (fsync(store->folder) != 0)
+        fail_errno(store->file, "sync its folder");
+}
+
+static void set_up(struct store *store, uint32_t n)
+{
+    memset(store->bytes, 0, STORED_SIZE);
+    uint32_t refused = cube_setup(store->bytes, RECORD_SIZE, n);
+    if (refused != 0)
+        fail(REFUSED_BY_NUMBER, store->file, "refused %u: no cube of dimension %u", (unsigned)refused, (unsigned)n);
+    save(store);
+}
+
+void store_open(struct store *store, const char *file, const uint32_t *n)
+{
+    name(store->file, file, "");
+    name(store->beside, file, ".new");
+    store->folder = open_folder(file);
+    store->lock = take_lock(file);
+    bool found = load(store);
+    if (found && n != NULL)
+        fail(WRONG_ARGUMENTS, file, "there is a record already, which N does not replace");
+    if (!found && n == NULL)
+        fail(WRONG_ARGUMENTS, file, "there is no such file, and no N to set up a fresh cube");
+    if (!found)
+        set_up(store, *n);
+}
+
+size_t store_call(struct store *store, const uint8_t *frame, size_t size, uint8_t reply[REPLY_SIZE])
+{
+    memset(reply, 0, REPLY_SIZE);
+    uint32_t refused = cube_call(store->bytes, RECORD_SIZE, frame, size, reply, REPLY_SIZE);
+    if (refused == 1 || refused == 2)
+        fail(REFUSED_BY_NUMBER, store->file, "refused %u while running; the file is that of the last accepted call", (unsigned)refused);
+    if (refused == 0) {
+        put_number(store->bytes + COUNT_AT, number(store->bytes + COUNT_AT) + 1);
+        memcpy(store->bytes + REPLY_AT, reply, REPLY_SIZE);
+        save(store);
+    }
+    return field(reply, 0);
+}
+
+void store_close(struct store *store)
+{
+    close(store->folder);
+    close(store->lock);
+}

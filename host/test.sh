@@ -1,0 +1,249 @@
+#!/usr/bin/env bash
+# The daemon over its socket and its file, against the second program. host/test.sh [SEED]. Wants bash 5.1 and what `rt staticlib cube` writes.
+set -Eeuo pipefail
+cd "$(dirname "${BASH_SOURCE[0]}")/.."
+seed=${1:-1}
+RANDOM=$seed
+bin=target/host
+disk=$(mktemp -d)
+memory=$(mktemp -d -p /dev/shm 2> /dev/null || mktemp -d) # where a sync costs little
+
+finish() {
+    jobs -p | xargs -r kill 2> /dev/null || true
+    rm -rf "$disk" "$memory"
+}
+trap finish EXIT
+trap 'echo "host/test.sh: line $LINENO failed, seed $seed"' ERR
+
+fail() {
+    echo "host/test.sh: $*, seed $seed"
+    exit 1
+}
+
+# reference PROGRAM WORDS..
+reference() { cargo run --offline --release --quiet --manifest-path reference/Cargo.toml --bin "$1" -- "${@:2}"; }
+
+# A machine's files in a new folder below the one given.
+new_machine() {
+    folder=$(mktemp -d -p "$1")
+    record=$folder/record
+    socket=$folder/socket
+}
+
+# make_log SEED FRAMES: a log, and what the second program prints and leaves for it.
+make_log() {
+    dimension=$(($1 % 11))
+    reference cube-gen "$1" "$2" > "$folder/log"
+    reference cube-ref < "$folder/log" > "$folder/lines"
+    reference cube-record < "$folder/log" > "$folder/expected"
+}
+
+start() {
+    "$@" &
+    daemon=$!
+}
+
+end_daemon() {
+    kill "$daemon"
+    wait "$daemon" || fail "the daemon ended with status $?"
+    [[ ! -e $socket ]] || fail "the socket was left"
+}
+
+client=(timeout 120 "$bin/cube-client") # with the socket's path
+
+same_as_reference() {
+    cmp "$folder/lines" "$folder/printed"
+    cmp -n 3088 "$folder/expected" "$record"
+}
+
+# plain_run SEED FRAMES
+plain_run() {
+    new_machine "$memory"
+    make_log "$1" "$2"
+    start "$bin/cube-host" "$record" "$socket" "$dimension"
+    "${client[@]}" "$socket" < "$folder/log" > "$folder/printed"
+    end_daemon
+    same_as_reference
+}
+
+# The command of a daemon that will be killed: by a power cut at one of its next 40 steps, or from outside within 50 ms.
+mortal() {
+    case $1 in
+        cut) command=(env "CUT_AT=$((1 + RANDOM % 40))" "LD_PRELOAD=$bin/power-cut.so" "$bin/cube-host") ;;
+        kill) command=(timeout --foreground -s KILL "0.0$((10 + RANDOM % 40))" "$bin/cube-host") ;;
+    esac
+    command+=("$record" "$socket")
+    if [[ ! -e $record ]]; then command+=("$dimension"); fi
+}
+
+# One daemon after another until the client is done; adds up those that were killed.
+daemons_until_done() {
+    local ended status
+    while true; do
+        mortal "$1"
+        start "${command[@]}"
+        status=0
+        { wait -n -p ended "$2" "$daemon" || status=$?; } 2> /dev/null
+        if [[ $ended == "$2" ]]; then break; fi
+        ((status == 137)) || fail "a daemon ended with status $status"
+        killed=$((killed + 1))
+    done
+    kill "$daemon"
+    { wait "$daemon" || true; } 2> /dev/null
+    return "$status"
+}
+
+# killed_run HOW FOLDER SEED FRAMES
+killed_run() {
+    new_machine "$2"
+    make_log "$3" "$4"
+    "${client[@]}" "$socket" < "$folder/log" > "$folder/printed" &
+    daemons_until_done "$1" $!
+    same_as_reference
+}
+
+# Logs of 1000 frames until daemons were killed as often as wanted. killed_often HOW FOLDER TIMES
+killed_often() {
+    local log=0
+    killed=0
+    while ((killed < $3)); do
+        log=$((log + 1))
+        ((log <= 40)) || fail "only $killed daemons were killed in 40 logs"
+        killed_run "$1" "$2" $((seed * 1000 + log * 7)) 1000
+    done
+    echo "host: $killed daemons killed ($1), logs of 1000 frames: $log, no difference"
+}
+
+# stops STATUS MESSAGE WORDS..: a daemon that ends at once.
+stops() {
+    local status=0
+    timeout 10 "$bin/cube-host" "${@:3}" 2> "$folder/message" || status=$?
+    ((status == $1)) || fail "status $status where $1 was due: $2"
+    grep -qF "$2" "$folder/message" || fail "'$2' is not in: $(cat "$folder/message")"
+}
+
+# refused_file MESSAGE: what stands in the record's file is refused by number 1 and stays.
+refused_file() {
+    cp "$record" "$folder/before"
+    stops 1 "cube-host: $record: refused 1: $1" "$record" "$socket"
+    cmp "$record" "$folder/before"
+    [[ ! -e $socket ]] || fail "a refused file got a socket"
+}
+
+# Changes the lowest bit of a byte.
+flip() {
+    local byte
+    byte=$(od -An -tu1 -j "$1" -N 1 "$record")
+    printf %b "\\x$(printf %02x $((byte ^ 1)))" | dd of="$record" bs=1 seek="$1" conv=notrunc status=none
+}
+
+flipped_are_refused() {
+    local place
+    for place in "${@:2}"; do
+        flip "$place"
+        refused_file "$1"
+        flip "$place"
+    done
+}
+
+# The file that examples/first.log leaves, damaged: n is 1, job 7 holds node 0, node 1 is faulty, three calls were accepted.
+damaged_files() {
+    new_machine "$memory"
+    start "$bin/cube-host" "$record" "$socket" 1
+    "${client[@]}" "$socket" < examples/first.log > "$folder/printed"
+    end_daemon
+    cp "$record" "$folder/right"
+    flipped_are_refused "what the file holds is not a record" 0 2 4 5 15 2065 3087
+    flipped_are_refused "the checksum is not that of the file" 16 3088 3096 3108 3115
+    head -c 3115 "$folder/right" > "$record"
+    refused_file "the file hasn't 3116 bytes"
+    echo >> "$record"
+    echo >> "$record"
+    refused_file "the file hasn't 3116 bytes"
+    : > "$record"
+    refused_file "the file hasn't 3116 bytes"
+}
+
+# Arguments, and what other programs have.
+refused_starts() {
+    new_machine "$memory"
+    stops 1 "refused 7" "$record" "$socket" 11
+    stops 2 "no such file" "$record" "$socket"
+    stops 2 "usage" "$record" "$socket" 1x
+    [[ ! -e $record ]] || fail "a refused start left a record"
+    start "$bin/cube-host" "$record" "$socket" 1
+    "${client[@]}" "$socket" < examples/first.log > "$folder/printed"
+    stops 3 "another cube-host has it" "$record" "$socket.2"
+    stops 3 "another program listens there" "$record.2" "$socket" 1
+    cp "$record" "$folder/before"
+    stops 3 "is no socket" "$record.3" "$folder/before" 1
+    end_daemon
+    stops 2 "there is a record already" "$record" "$socket" 1
+    cmp "$record" "$folder/before"
+}
+
+# Saving fails within a call: the daemon ends, the file stays, and the next daemon makes the call.
+full_disk() {
+    local waiting
+    new_machine "$memory"
+    reference cube-ref < examples/first.log > "$folder/lines"
+    reference cube-record < examples/first.log > "$folder/expected"
+    start "$bin/cube-host" "$record" "$socket" 1
+    head -c 6 examples/first.log | "${client[@]}" "$socket" > "$folder/printed"
+    end_daemon
+    cp "$record" "$folder/before"
+    "${client[@]}" "$socket" < examples/first.log > "$folder/printed" &
+    waiting=$!
+    (trap '' XFSZ && ulimit -f 2 && stops 3 "cube-host: $record.new: write: File too large" "$record" "$socket")
+    cmp "$record" "$folder/before"
+    start "$bin/cube-host" "$record" "$socket"
+    wait "$waiting"
+    end_daemon
+    same_as_reference
+}
+
+# A call that is refused, here 'good' of node 2 at n 1, leaves the file alone.
+refused_call() {
+    local before
+    new_machine "$memory"
+    start "$bin/cube-host" "$record" "$socket" 1
+    head -c 6 examples/first.log | "${client[@]}" "$socket" > "$folder/printed"
+    before=$(stat -c '%i %y' "$record")
+    printf '\6\0\1\3\1\0\6\0\1\1\2\0' | "${client[@]}" "$socket" | grep -x '2 refused 8 0' > /dev/null
+    [[ $(stat -c '%i %y' "$record") == "$before" ]] || fail "a refused call wrote the file"
+    end_daemon
+}
+
+odd_clients() {
+    new_machine "$memory"
+    start "$bin/cube-host" "$record" "$socket" 1
+    timeout 60 "$bin/odd-clients" "$socket" "$daemon"
+    wait "$daemon" || fail "the daemon ended with status $?"
+}
+
+# Daemon and client under valgrind.
+watched() {
+    local watch=(valgrind --quiet --error-exitcode=9 --leak-check=full)
+    new_machine "$memory"
+    make_log "$1" "$2"
+    start "${watch[@]}" "$bin/cube-host" "$record" "$socket" "$dimension"
+    timeout 120 "${watch[@]}" "$bin/cube-client" "$socket" < "$folder/log" > "$folder/printed"
+    end_daemon
+    same_as_reference
+}
+
+host/build
+cargo build --offline --release --quiet --manifest-path reference/Cargo.toml
+for log in 21 16 33; do # n is 10, 5 and 0; the first ends in bytes that are no frame
+    plain_run "$log" 20000
+done
+echo "host: 3 logs of 20000 frames through the socket, no difference"
+killed_often kill "$disk" 60
+killed_often cut "$memory" 200
+damaged_files
+refused_starts
+full_disk
+refused_call
+odd_clients
+if command -v valgrind > /dev/null; then watched 15 400; else echo "host: no valgrind here"; fi
+echo "host: damaged files, refused starts, a full disk and odd clients as expected"
