@@ -1,8 +1,8 @@
 /* The partition manager for one binary hypercube: set-up and the frame call.
  *
  * Link with libcube.a. Both functions always return, keep nothing between
- * calls, call nothing and need no heap. They may run in several threads at
- * once on different buffers.
+ * calls and need no heap; they call nothing but memcpy and memset. They may
+ * run in several threads at once on different buffers.
  *
  * The record is 3088 bytes that belong to the host: one record for each cube.
  * A frame is one call; the reply is written into a buffer of the host's.
