@@ -2,17 +2,13 @@
 //! each call at n 4, 7 and 10, and the worst request (nothing free) for every
 //! strategy and k at n = 10. `rt staticlib cube` comes first.
 
-#[path = "../../compare/src/proved.rs"]
-#[allow(dead_code)]
-mod proved;
-
+use cube_proved::frame::{fault, frame, good, relabel, release, request};
+use cube_proved::{self as proved, STRATEGIES};
 use cube_reference as reference;
 use std::hint::black_box;
 use std::time::Instant;
 
 type Call = fn(&mut [u8], &[u8], &mut [u8]) -> u32;
-
-const STRATEGIES: [&str; 4] = ["buddy", "Gray", "tree", "extended"];
 
 /// A row: the calls that stand before, and the call that is timed, each time on
 /// the record as those left it.
@@ -23,27 +19,9 @@ struct Row {
     call: Vec<u8>,
 }
 
-fn frame(kind: u16, fields: &[u8]) -> Vec<u8> {
-    let length = 4 + fields.len() as u16;
-    [&length.to_le_bytes(), &kind.to_le_bytes(), fields].concat()
-}
-
-fn node(kind: u16, x: u32) -> Vec<u8> {
-    frame(kind, &(x as u16).to_le_bytes())
-}
-
-fn request(job: u16, k: u32, strategy: u8) -> Vec<u8> {
-    let job = job.to_le_bytes();
-    frame(0x0201, &[job[0], job[1], k as u8, strategy])
-}
-
-fn release(job: u16) -> Vec<u8> {
-    frame(0x0202, &job.to_le_bytes())
-}
-
 /// All nodes good.
 fn goods(n: u32) -> Vec<Vec<u8>> {
-    (0..1 << n).map(|x| node(0x0101, x)).collect()
+    (0..1 << n).map(good).collect()
 }
 
 fn row(name: &str, n: u32, before: Vec<Vec<u8>>, call: Vec<u8>) -> Row {
@@ -52,17 +30,17 @@ fn row(name: &str, n: u32, before: Vec<Vec<u8>>, call: Vec<u8>) -> Row {
 
 fn rows(n: u32) -> Vec<Row> {
     let last = (1 << n) - 1;
-    let faults = vec![node(0x0102, 0), node(0x0102, last)];
+    let faults = vec![fault(0), fault(last)];
     let mut rows = vec![
-        row("report good", n, vec![], node(0x0101, last)),
-        row("report fault", n, vec![], node(0x0102, 0)),
+        row("report good", n, vec![], good(last)),
+        row("report fault", n, vec![], fault(0)),
         row("refused frame (4)", n, vec![], frame(0x0999, &[0, 0])),
-        row("refused node (8)", n, vec![], node(0x0101, 1 << n)),
+        row("refused node (8)", n, vec![], good(1 << n)),
         row("refused release (11)", n, goods(n), release(7)),
-        row("relabel", n, faults, frame(0x0203, &[])),
+        row("relabel", n, faults, relabel()),
     ];
     for (strategy, name) in STRATEGIES.iter().enumerate() {
-        let request = request(7, n / 2, strategy as u8);
+        let request = request(7, n as u8 / 2, strategy as u8);
         let granted = [goods(n), vec![request.clone()]].concat();
         rows.push(row(&format!("request granted, {name}"), n, goods(n), request));
         rows.push(row(&format!("release, {name}"), n, granted, release(7)));
@@ -75,7 +53,7 @@ fn worst(n: u32) -> Vec<Row> {
     let mut rows = Vec::new();
     for (strategy, name) in STRATEGIES.iter().enumerate() {
         for k in 0..=n {
-            let request = request(7, k, strategy as u8);
+            let request = request(7, k as u8, strategy as u8);
             rows.push(row(&format!("none free, {name}, k {k}"), n, vec![], request));
         }
     }

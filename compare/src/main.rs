@@ -4,7 +4,6 @@
 
 mod input;
 mod pair;
-mod proved;
 
 use cube_reference::record::SIZE;
 use cube_reference::rng::Rng;

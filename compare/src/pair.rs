@@ -1,8 +1,7 @@
 //! One cube held twice, by the proved library and by the second program.
 
+use cube_proved as proved;
 use cube_reference as reference;
-
-use crate::proved;
 
 pub struct Pair {
     pub proved: Vec<u8>,

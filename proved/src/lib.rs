@@ -1,4 +1,10 @@
-//! The two proved functions, as `include/cube.h` declares them.
+//! The two proved functions, as `include/cube.h` declares them, and frames for
+//! them. `rt staticlib cube` comes first.
+
+pub mod frame;
+
+/// The strategies' names, by number.
+pub const STRATEGIES: [&str; 4] = ["buddy", "Gray", "tree", "extended"];
 
 extern "C" {
     fn cube_setup(record: *mut u8, record_len: usize, n: u32) -> u32;
