@@ -132,6 +132,7 @@ fn frame_pairs(rec: &mut [u8]) {
     call(b"causes 3 and 4", rec, b"\x07\x00\x99\x09\x00\x00");
     call(b"causes 3 and 5", rec, b"\x06\x00\x01\x01\x00");
     call(b"cause 4", rec, b"\x06\x00\x01\x03\x01\x00");
+    call(b"cause 4, a size of no kind", rec, b"\x05\x00\x01\x03\x00");
 }
 
 fn job_pairs(rec: &mut [u8]) {
@@ -141,10 +142,12 @@ fn job_pairs(rec: &mut [u8]) {
         b"\x09\x00\x01\x02\x00\x00\x00\x00\x00",
     );
     call(b"causes 6 and 7", rec, b"\x08\x00\x01\x02\x00\x00\x02\x00");
+    call(b"causes 5 and 11", rec, b"\x07\x00\x02\x02\x08\x00\x00");
     call(b"causes 6 and 11", rec, b"\x06\x00\x02\x02\x00\x00");
 }
 
 fn call_pairs(rec: &mut [u8]) {
+    call(b"causes 5 and 8", rec, b"\x07\x00\x01\x01\x02\x00\x00");
     call(b"causes 7 and 9", rec, b"\x08\x00\x01\x02\x08\x00\x02\x04");
     call(b"causes 8 and 12", rec, b"\x06\x00\x03\x01\x02\x00");
     call(b"causes 9 and 10", rec, b"\x08\x00\x01\x02\x07\x00\x00\x04");
@@ -170,6 +173,7 @@ fn single_causes(rec: &mut [u8]) {
 }
 
 fn last_causes(rec: &mut [u8]) {
+    call(b"causes 5 and 13", rec, b"\x05\x00\x03\x02\x00");
     call(b"cause 13", rec, b"\x04\x00\x03\x02");
     call(b"cause 14", rec, b"\x08\x00\x01\x02\x08\x00\x00\x03");
     call(b"fault 0, held by 7", rec, b"\x06\x00\x02\x01\x00\x00");
