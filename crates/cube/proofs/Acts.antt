@@ -24,13 +24,13 @@ use Rattle.history.specs.Verdicts.{Verdict, granted, refused, done, faulty, cho
 use Rattle.history.specs.Claims.{Accepted}
 use Rattle.history.proofs.Chosen.{chosen-first}
 use Rattle.history.proofs.Granted.{toldNodes, granted-nodes}
-use Rattle.allocator.specs.declared.State.{State}
-use Rattle.allocator.specs.declared.Reply.{Reply}
-use Rattle.allocator.specs.declared.Reply.the-variants.{Granted, Refused, Done}
-use Rattle.allocator.specs.declared.Step.{Step}
-use Rattle.allocator.specs.States as states
-use Rattle.allocator.specs.Acts.{numberOf, step, refuse, nodeCount, holds, anyHeld, goodStep, faultStep, repairedStep, relabelStep, grantStep, requestStep, releaseStep}
-use Rattle.allocator.proofs.Valid.{Valid}
+use Rattle.state.specs.declared.State.{State}
+use Rattle.state.specs.declared.Reply.{Reply}
+use Rattle.state.specs.declared.Reply.the-variants.{Granted, Refused, Done}
+use Rattle.state.specs.declared.Step.{Step}
+use Rattle.state.specs.States as states
+use Rattle.state.specs.Acts.{numberOf, step, refuse, nodeCount, holds, anyHeld, goodStep, faultStep, repairedStep, relabelStep, grantStep, requestStep, releaseStep}
+use Rattle.state.proofs.Valid.{Valid}
 use Rattle.record.proofs.Round.{Sized, length-each}
 use Rattle.cube.proofs.Tested.{noneIn, rung, tests}
 use Rattle.cube.proofs.View.{entry, view, entry-set, entry-cleared, entry-given, walk-is}

@@ -14,10 +14,10 @@ use Rattle.history.specs.Calls.{kind}
 use Rattle.history.specs.Account.{History}
 use Rattle.history.specs.Verdicts.{Verdict, refused, stepBy, verdictBy, step, verdict}
 use Rattle.history.specs.Claims.{Accepted, Bounded}
-use Rattle.allocator.specs.declared.State.{State}
-use Rattle.allocator.specs.declared.Step.{Step}
-use Rattle.allocator.specs.Acts.{numberOf}
-use Rattle.allocator.proofs.Valid.{Valid, means-valid}
+use Rattle.state.specs.declared.State.{State}
+use Rattle.state.specs.declared.Step.{Step}
+use Rattle.state.specs.Acts.{numberOf}
+use Rattle.state.proofs.Valid.{Valid, means-valid}
 use Rattle.record.specs.Layout.{encode, validRecord}
 use Rattle.record.proofs.Round.{Sized, decode-encode, valid-encode}
 use Rattle.frames.specs.Parse.{parsed}

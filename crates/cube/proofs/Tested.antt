@@ -18,8 +18,8 @@ use Rattle.history.specs.Account.{History}
 use Rattle.history.specs.Causes.{Row, Decided, causes, NoMemberFree}
 use Rattle.history.specs.Verdicts.{firstMet, decided, cause, chosen}
 use Rattle.history.proofs.Chosen.{chosen-first, chosen-none}
-use Rattle.allocator.specs.Valid.{anyBelow}
-use Rattle.allocator.proofs.Valid.{means-same, means-any}
+use Rattle.state.specs.Valid.{anyBelow}
+use Rattle.state.proofs.Valid.{means-same, means-any}
 
 -- ---- the tests of the rows
 

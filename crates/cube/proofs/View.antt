@@ -19,9 +19,9 @@ use Rattle.history.specs.Account.{History, put, putAll, wipe, freeLabel}
 use Rattle.history.proofs.Counting.{means-among}
 use Rattle.labels.specs.Flags.{flag, flags}
 use Rattle.walks.specs.Flagged.{flagged}
-use Rattle.allocator.specs.declared.State.{State}
-use Rattle.allocator.specs.States.{given, cleared}
-use Rattle.allocator.specs.Acts.{walkOf}
+use Rattle.state.specs.declared.State.{State}
+use Rattle.state.specs.States.{given, cleared}
+use Rattle.state.specs.Acts.{walkOf}
 use Rattle.record.proofs.Round.{length-each, getD-each}
 
 -- the entry at a place, 0 beyond the list

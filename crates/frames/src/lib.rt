@@ -1,6 +1,6 @@
 // Frames to calls, and replies to frames. Document 01, "Six calls and their frames".
-use allocator::Call;
-use allocator::Reply;
+use state::Call;
+use state::Reply;
 use hypercube::Node;
 ghost use mathlib.Core.Path.{_≡_};
 ghost use Prim.Native.Nat.{ℕ, _+_, _*_, _≤_, _<_};

@@ -173,7 +173,7 @@ fn nodes_by_label(n: u16, map: &[u8; 10]) -> [Node; 1024]
 }
 
 // 1 where a node of this condition and this holder is free, else 0: "A node is free if it is good and unheld."
-fn flag_of(condition: u8, holder: u16) -> u8
+pub fn flag_of(condition: u8, holder: u16) -> u8
     ensures { λ r. ⌜ r ≡ flagOf condition holder ⌝ }
 {
     if condition == 1 && holder == 0 { 1 } else { 0 }

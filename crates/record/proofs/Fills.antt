@@ -7,7 +7,7 @@ use borrow.Author.Count.{below-more}
 use lib.ListN.{length, getD, set, length-set}
 use lib.Seq.{ext-getD, getD-set-same, getD-set-other}
 use Rattle.hypercube.specs.Lists.{from}
-use Rattle.allocator.specs.declared.State.{State}
+use Rattle.state.specs.declared.State.{State}
 use Rattle.record.specs.Layout.{encode}
 use Rattle.record.specs.Filled.{Filled, Stored}
 use Rattle.record.proofs.Round.{Sized, length-encode, is-each}

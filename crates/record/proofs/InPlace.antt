@@ -5,8 +5,8 @@ use mathlib.Core.Bool.{true}
 use mathlib.Core.List.{List, [], _∷_, _++_, append-assoc}
 use native.Mathlib.Omega.{arith}
 use lib.ListN.{length, getD, set, length-append}
-use Rattle.allocator.specs.declared.State.{State}
-use Rattle.allocator.specs.States.{withCondition}
+use Rattle.state.specs.declared.State.{State}
+use Rattle.state.specs.States.{withCondition}
 use Rattle.record.specs.Layout.{words, encode, decode, headRight}
 use Rattle.record.proofs.Round.{Sized, length-words, sized-decode, encode-decode}
 

@@ -10,8 +10,8 @@ use lib.Dec.{eqb, leb}
 use lib.ListN.{length, getD}
 use Rattle.hypercube.proofs.Tests.{Means, means-eq, means-le, means-and, same-test}
 use Rattle.history.specs.Calls.{word}
-use Rattle.allocator.specs.Valid.{nodesRight}
-use Rattle.allocator.proofs.Valid.{means-same, means-nodes}
+use Rattle.state.specs.Valid.{nodesRight}
+use Rattle.state.proofs.Valid.{means-same, means-nodes}
 use Rattle.record.specs.Highest.{highestOf}
 use Rattle.record.specs.Layout.{decode}
 use Rattle.record.proofs.Round.{decode-holder, decode-condition, each-holder}

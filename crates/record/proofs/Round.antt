@@ -14,8 +14,8 @@ use Rattle.hypercube.proofs.Bits.{lt-or}
 use Rattle.hypercube.proofs.Lists.{length-from}
 use Rattle.hypercube.proofs.Tests.{Means, means-eq, means-and}
 use Rattle.history.specs.Calls.{word}
-use Rattle.allocator.specs.declared.State.{State}
-use Rattle.allocator.specs.Valid.{valid}
+use Rattle.state.specs.declared.State.{State}
+use Rattle.state.specs.Valid.{valid}
 use Rattle.record.specs.Layout.{words, encode, decode, headRight, validRecord}
 
 -- ---- the list f 0, f 1, .., c of them

@@ -7,8 +7,8 @@ use lib.Dec.{eqb}
 use lib.ListN.{length, getD}
 use Rattle.hypercube.specs.Lists.{from}
 use Rattle.history.specs.Calls.{word}
-use Rattle.allocator.specs.declared.State.{State}
-use Rattle.allocator.specs.Valid.{valid}
+use Rattle.state.specs.declared.State.{State}
+use Rattle.state.specs.Valid.{valid}
 
 -- two bytes of each number, little-endian
 unfoldable pub words : List ℕ → List ℕ

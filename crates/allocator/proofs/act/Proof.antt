@@ -1,9 +1,9 @@
 -- `allocator::act` meets its contract. Assumes nothing.
 use mathlib.Core.Path.{sym, ap, _∙_}
 use borrow.Author.Needs.{needs}
-use Rattle.allocator.specs.Acts.{acted}
-use Rattle.allocator.proofs.act.Statement.{statement}
-use Rattle.allocator.proofs.act.Tie as tie
+use Rattle.state.specs.Acts.{acted}
+use Rattle.state.proofs.act.Statement.{statement}
+use Rattle.state.proofs.act.Tie as tie
 
 enum-known-c : tie.Need-enum-known-c
 enum-known-c c = search needs

@@ -2,10 +2,10 @@
 use borrow.Author.Needs.{needs}
 use mathlib.Core.Path.{sym, _∙_}
 use borrow.Author.Tests.{not-true, not-false}
-use Rattle.allocator.proofs.Valid.{means-valid}
-use Rattle.allocator.proofs.Steps.{called-1, called-on}
-use Rattle.allocator.proofs.call_on.Statement.{statement}
-use Rattle.allocator.proofs.call_on.Tie as tie
+use Rattle.state.proofs.Valid.{means-valid}
+use Rattle.state.proofs.Steps.{called-1, called-on}
+use Rattle.state.proofs.call_on.Statement.{statement}
+use Rattle.state.proofs.call_on.Tie as tie
 
 valid-requires : tie.Need-valid-requires
 valid-requires c κs = search needs

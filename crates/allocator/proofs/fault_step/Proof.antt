@@ -2,9 +2,9 @@
 use borrow.Author.Needs.{needs}
 use mathlib.Core.Path.{_∙_}
 use native.Mathlib.Omega.{arith}
-use Rattle.allocator.proofs.Steps.{fault-8, fault-done}
-use Rattle.allocator.proofs.fault_step.Statement.{statement}
-use Rattle.allocator.proofs.fault_step.Tie as tie
+use Rattle.state.proofs.Steps.{fault-8, fault-done}
+use Rattle.state.proofs.fault_step.Statement.{statement}
+use Rattle.state.proofs.fault_step.Tie as tie
 
 cast-i : tie.Need-cast-i
 cast-i c = search needs

@@ -2,9 +2,9 @@
 use borrow.Author.Needs.{needs}
 use mathlib.Core.Path.{_∙_}
 use native.Mathlib.Omega.{arith}
-use Rattle.allocator.proofs.Steps.{good-8, good-12, good-done}
-use Rattle.allocator.proofs.good_step.Statement.{statement}
-use Rattle.allocator.proofs.good_step.Tie as tie
+use Rattle.state.proofs.Steps.{good-8, good-12, good-done}
+use Rattle.state.proofs.good_step.Statement.{statement}
+use Rattle.state.proofs.good_step.Tie as tie
 
 cast-i : tie.Need-cast-i
 cast-i c = search needs

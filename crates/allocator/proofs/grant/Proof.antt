@@ -3,10 +3,10 @@ use borrow.Author.Needs.{needs}
 use mathlib.Core.Path.{_≡_, sym, _∙_}
 use lib.ListN.{length}
 use Rattle.labels.proofs.Directions.{directions}
-use Rattle.allocator.proofs.Grants.{lowest-of}
-use Rattle.allocator.proofs.Steps.{grant-14, grant-found}
-use Rattle.allocator.proofs.grant.Statement.{statement}
-use Rattle.allocator.proofs.grant.Tie as tie
+use Rattle.state.proofs.Grants.{lowest-of}
+use Rattle.state.proofs.Steps.{grant-14, grant-found}
+use Rattle.state.proofs.grant.Statement.{statement}
+use Rattle.state.proofs.grant.Tie as tie
 
 nodes : (c : tie.Start) → length (c .args .t1 .holders) ≡ 1024
 nodes c = search needs

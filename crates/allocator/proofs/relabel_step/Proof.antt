@@ -1,9 +1,9 @@
 -- `allocator::relabel_step` meets its contract. Assumes nothing.
 use borrow.Author.Needs.{needs}
 use mathlib.Core.Path.{_∙_}
-use Rattle.allocator.proofs.Steps.{relabel-13, relabel-done}
-use Rattle.allocator.proofs.relabel_step.Statement.{statement}
-use Rattle.allocator.proofs.relabel_step.Tie as tie
+use Rattle.state.proofs.Steps.{relabel-13, relabel-done}
+use Rattle.state.proofs.relabel_step.Statement.{statement}
+use Rattle.state.proofs.relabel_step.Tie as tie
 
 node-count-requires : tie.Need-node-count-requires
 node-count-requires c κs = search needs

@@ -2,9 +2,9 @@
 use borrow.Author.Needs.{needs}
 use mathlib.Core.Path.{_∙_}
 use native.Mathlib.Omega.{arith}
-use Rattle.allocator.proofs.Steps.{counted, holds-none, holds-some, release-6, release-11, release-done}
-use Rattle.allocator.proofs.release_step.Statement.{statement}
-use Rattle.allocator.proofs.release_step.Tie as tie
+use Rattle.state.proofs.Steps.{counted, holds-none, holds-some, release-6, release-11, release-done}
+use Rattle.state.proofs.release_step.Statement.{statement}
+use Rattle.state.proofs.release_step.Tie as tie
 
 refused-requires : tie.Need-refused-requires
 refused-requires c κs = search needs

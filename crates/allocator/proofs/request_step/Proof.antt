@@ -2,9 +2,9 @@
 use borrow.Author.Needs.{needs}
 use mathlib.Core.Path.{_∙_}
 use native.Mathlib.Omega.{arith}
-use Rattle.allocator.proofs.Steps.{holds-none, holds-some, request-6, request-7, request-9, request-10, request-walk}
-use Rattle.allocator.proofs.request_step.Statement.{statement}
-use Rattle.allocator.proofs.request_step.Tie as tie
+use Rattle.state.proofs.Steps.{holds-none, holds-some, request-6, request-7, request-9, request-10, request-walk}
+use Rattle.state.proofs.request_step.Statement.{statement}
+use Rattle.state.proofs.request_step.Tie as tie
 
 refused-requires : tie.Need-refused-requires
 refused-requires c κs = search needs

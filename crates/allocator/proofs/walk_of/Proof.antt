@@ -7,8 +7,8 @@ use native.Mathlib.Omega.{arith}
 use Rattle.hypercube.specs.Families.{choice}
 use Rattle.labels.proofs.Directions.{directions}
 use Rattle.walks.specs.Flagged.{flagged}
-use Rattle.allocator.proofs.walk_of.Statement.{statement}
-use Rattle.allocator.proofs.walk_of.Tie as tie
+use Rattle.state.proofs.walk_of.Statement.{statement}
+use Rattle.state.proofs.walk_of.Tie as tie
 
 cast-n : tie.Need-cast-n
 cast-n c = search needs
