@@ -13,10 +13,10 @@ use Rattle.hypercube.proofs.Moved.{moved-subcube}
 use Rattle.hypercube.proofs.Search.{found-first, first-in}
 use Rattle.labels.specs.Flags.{flags}
 use Rattle.walks.specs.Flagged.{flagged}
 use Rattle.state.specs.declared.State.{State}
 use Rattle.state.specs.Valid.{Valid}
 use Rattle.state.specs.Acts.{walkOf}
-use Rattle.state.specs.Holders.{LowestOf}
+use Rattle.record.specs.Holders.{LowestOf}
 
 module _ (s : State) (v : Valid s) (k f : ℕ) (h : k ≤ s .n) (c : Subcube) (t : ℕ) (e : walkOf s k f ≡ Found c t) where
   member : IsSubcube (s .n) k (subcube (node (s .map) (c .low .0)) (node (s .map) (c .stars)))

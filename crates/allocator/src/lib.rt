@@ -6,6 +6,7 @@ use state::Call;
 use state::Reply;
 use state::State;
 use state::Step;
+use state::refused;
 ghost use mathlib.Core.Path.{_≡_};
 ghost use mathlib.Core.Bool.{true};
 ghost use Prim.Native.Nat.{_^_, _≤_};
@@ -15,12 +16,6 @@ ghost use Rattle.state.specs.Acts.{refuse, walkOf, grantStep, called};
 ghost use Rattle.record.specs.Layout.{validRecord, decode};
 ghost use Rattle.allocator.specs.Carried.{Does, Carried};
 ghost use Rattle.state.specs.Tried.{triedIn};
-
-fn refused(number: u16) -> Reply
-    ensures { λ r. ⌜ r ≡ Reply.Refused number 0 ⌝ }
-{
-    Reply::Refused { number, tried: 0 }
-}
 
 // How many nodes the cube has.
 fn nodes_of(rec: &[u8]) -> usize
@@ -150,7 +145,8 @@ fn request_on(rec: &mut [u8], job: u16, k: u8, strategy: u8) -> Reply
     if job == 0 {
         return refused(6);
     }
-    if record::dimension(rec) < k {
+    let n = record::dimension(rec);
+    if n < k {
         return refused(7);
     }
     if 3 < strategy {

@@ -23,12 +23,6 @@ pub extern "C" fn cube_setup(rec: &mut [u8], n: u32) -> u32
     0
 }
 
-fn refused(number: u16) -> Reply
-    ensures { λ r. ⌜ r ≡ Reply.Refused number 0 ⌝ }
-{
-    Reply::Refused { number, tried: 0 }
-}
-
 // A frame on a record that is one: its call, or the refusal of the frame.
 fn carry_frame(rec: &mut [u8], p: Parsed) -> Reply
     requires { ⌜ validRecord (now rec) ≡ true ⌝ }
@@ -36,7 +30,7 @@ fn carry_frame(rec: &mut [u8], p: Parsed) -> Reply
 {
     match p {
         Parsed::Known(c) => allocator::call_record(rec, c),
-        Parsed::Bad(number) => refused(number),
+        Parsed::Bad(number) => state::refused(number),
     }
 }
 

@@ -116,6 +116,13 @@ impl State {
     }
 }
 
+// A refusal with nothing tried.
+pub fn refused(number: u16) -> Reply
+    ensures { λ r. ⌜ r ≡ Reply.Refused number 0 ⌝ }
+{
+    Reply::Refused { number, tried: 0 }
+}
+
 // A reply's number: 0, or the refusal's.
 pub fn number(r: Reply) -> u16
     ensures { λ b. ⌜ b ≡ numberOf r ⌝ }
