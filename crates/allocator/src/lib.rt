@@ -348,7 +348,8 @@ fn walk_of(s: State, k: u8, strategy: u8) -> Walk
     ensures { λ r. ⌜ r ≡ walkOf s k strategy ⌝ }
 {
     let n = s.n as u16;
-    let flags = labels::flags_by_label(n, &s.map, &s.conditions, &s.holders);
+    let by_node = labels::flags_by_node(n, &s.conditions, &s.holders);
+    let flags = labels::flags_by_label(n, &s.map, &by_node);
     walks::choose(&flags, strategy, n, k as u16)
 }
 

@@ -34,7 +34,7 @@ done-requires c κs = search needs
 returns-2 : tie.Need-returns-2
 returns-2 c =
     let at = c .before .before .before in
-    let test = at .before .before .before in
+    let test = at .before .before .before .before in
     c .done .ensures
     ∙ rw (c .before .with-map .ensures)
     (relabel-done _ _ (test .before .before .node-count .ensures .0) _ (test .before .any-held .ensures) _ (at .relabel .ensures) (test .if1 .left))
