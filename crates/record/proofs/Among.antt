@@ -1,6 +1,6 @@
 -- Which numbers a subcube has, by one sum: y is one of them exactly where the lowest and y's stars make y. Assumes nothing.
 use Prim.Native.Nat.{ℕ, zero, suc, _+_, _*_, _/_, _^_, _<_}
-use mathlib.Core.Logic.{_↔_, _⊎_, inr, ⊎-elim}
+use mathlib.Core.Logic.{_↔_, inr, ⊎-elim}
 use mathlib.Core.Path.{_≡_, sym, _∙_}
 use mathlib.Core.Bool.{false≢true}
 use mathlib.Core.List.{List, [], _∷_}

@@ -16,7 +16,7 @@ use Rattle.hypercube.proofs.Tests.{Means, means-eq, means-and}
 use Rattle.history.specs.Calls.{word}
 use Rattle.state.specs.declared.State.{State}
 use Rattle.state.specs.Valid.{valid}
-use Rattle.record.specs.Layout.{words, encode, decode, headRight, validRecord}
+use Rattle.record.specs.Layout.{words, encode, decode, Encoded, headRight, validRecord}
 
 -- ---- the list f 0, f 1, .., c of them
 
@@ -153,6 +153,9 @@ sized-decode r = record {
   conditions = length-each (λ x. getD r (2064 + x) 0) 1024;
 }
 
+pub encoded-long : {r : List ℕ} → Encoded r → length r ≡ 3088
+encoded-long {r} e = ap length (sym e) ∙ length-encode (decode r) (sized-decode r)
+
 -- the state made of what was read, part by part
 pub decode-parts : (r : List ℕ) (m : ℕ) (ds hs cs : List ℕ) → m ≡ decode r .n → ds ≡ map (λ i. getD r (5 + i) 0) (from 0 10)
     → hs ≡ map (λ x. word r (16 + 2 * x)) (from 0 1024) → cs ≡ map (λ x. getD r (2064 + x) 0) (from 0 1024)
@@ -209,9 +212,9 @@ unfolding word
 word-high r i b = omega arith
 
 -- a byte among the holders is the low or the high one of a holder
-pub each-holder : (P : ℕ → Type 0) (i : ℕ) → 16 ≤ i → i < 2064 → ((x : ℕ) → x < 1024 → i ≤ 16 + 2 * x + 1 → P (16 + 2 * x) × P (16 + 2 * x + 1)) → P i
+pub each-holder : (P : ℕ → Type 0) (i : ℕ) → 16 ≤ i → i < 2064 → ((x : ℕ) → x < 1024 → 16 + 2 * x ≤ i → i ≤ 16 + 2 * x + 1 → P (16 + 2 * x) × P (16 + 2 * x + 1)) → P i
 each-holder P i a b h =
-    let both = h ((i - 16) / 2) (omega arith) (omega arith) in
+    let both = h ((i - 16) / 2) (omega arith) (omega arith) (omega arith) in
     ⊎-elim (λ (e : (i - 16) % 2 < 1). subst P (omega arith) (both .0)) (λ (e : 1 ≤ (i - 16) % 2). subst P (omega arith) (both .1)) (lt-or ((i - 16) % 2) 1)
 
 -- 3088 bytes with a right head
@@ -255,14 +258,14 @@ module _ (r : List ℕ) (long : length r ≡ 3088) (bytes : (i : ℕ) → getD r
       ⊎-elim (same-first i)
       (λ (a : 5 ≤ i). ⊎-elim (λ (b : i < 15). subst Same (omega arith) (same-map (i - 5) (omega arith)))
       (λ (b : 15 ≤ i). ⊎-elim (λ (d : i < 16). subst Same (omega arith) same-zero)
-      (λ (d : 16 ≤ i). ⊎-elim (λ (e : i < 2064). each-holder Same i d e (λ x l _. (same-low x l, same-high x l)))
+      (λ (d : 16 ≤ i). ⊎-elim (λ (e : i < 2064). each-holder Same i d e (λ x l _ _. (same-low x l, same-high x l)))
       (λ (e : 2064 ≤ i). subst Same (omega arith) (same-condition (i - 2064) (omega arith)))
       (lt-or i 2064))
       (lt-or i 16))
       (lt-or i 15))
       (lt-or i 5)
 
-  pub encode-decode : encode (decode r) ≡ r
+  pub encode-decode : Encoded r
   encode-decode =
       let e = length-encode (decode r) (sized-decode r) in
       ext-getD 0 (encode (decode r)) r (e ∙ sym long) (λ i h. same i (omega arith))

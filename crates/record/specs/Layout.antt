@@ -1,6 +1,7 @@
 -- The record's bytes. Document 01, "Node and record": "The record is 3088 bytes, all fields little-endian: length 3088 (2 bytes), kind 0x0001 (2), n (1),
 -- the map (10 [..]), a zero byte, 1024 holders (2 each), 1024 conditions (1 each)."
 use Prim.Native.Nat.{ℕ, zero, suc, _+_, _*_, _%_, _/_}
+use mathlib.Core.Path.{_≡_}
 use mathlib.Core.Bool.{Bool, _&&_}
 use mathlib.Core.List.{List, [], _∷_, _++_, map}
 use lib.Dec.{eqb}
@@ -27,6 +28,10 @@ decode r = record {
   holders = map (λ x. word r (16 + 2 * x)) (from 0 1024);
   conditions = map (λ x. getD r (2064 + x) 0) (from 0 1024);
 }
+
+-- r is the record of the state that it says
+abbrev pub Encoded : List ℕ → Type 0
+Encoded r = encode (decode r) ≡ r
 
 -- refusal 1's whole test
 unfoldable pub headRight : List ℕ → Bool

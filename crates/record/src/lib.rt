@@ -1,13 +1,14 @@
 // A record's 3088 bytes, and the state that they say (document 01, "Node and record").
-use state::State;
 use hypercube::Node;
+use state::State;
 ghost use mathlib.Core.Path.{_≡_};
-ghost use mathlib.Core.Bool.{true, not};
+ghost use mathlib.Core.Bool.{true, not, cond};
 ghost use mathlib.Core.List.{map};
 ghost use Prim.Native.Nat.{_+_, _*_, _<_, _≤_};
 ghost use lib.ListN.{length, getD, set};
 ghost use Rattle.hypercube.specs.Lists.{from};
 ghost use Rattle.history.specs.Calls.{word};
+ghost use lib.Bits.{bitAnd};
 ghost use lib.Dec.{eqb};
 ghost use Rattle.hypercube.specs.Bits.{width};
 ghost use Rattle.hypercube.specs.Lists.{countBelow};
@@ -15,7 +16,7 @@ ghost use Rattle.hypercube.specs.Subcubes.{vertices};
 ghost use Rattle.labels.specs.Flags.{byNode};
 ghost use Rattle.state.specs.States.{withCondition, withMap, withHolders, given, cleared};
 ghost use Rattle.state.specs.Valid.{anyBelow, nodesRight, valid};
-ghost use Rattle.record.specs.Layout.{encode, decode, headRight, validRecord};
+ghost use Rattle.record.specs.Layout.{encode, decode, Encoded, headRight, validRecord};
 ghost use Rattle.record.specs.Filled.{Stored};
 ghost use Rattle.record.specs.Holders.{LowestOf, EmptyFrom};
 ghost use Rattle.record.specs.Highest.{highestOf};
@@ -210,21 +211,30 @@ pub fn set_condition(bytes: &mut [u8], x: Node, condition: u8)
 
 // Node x's holder, set in place.
 fn set_holder(bytes: &mut [u8], x: usize, job: u16)
-    requires { ⌜ (length (now bytes) ≡ 3088) × ((x < 1024) × (headRight (now bytes) ≡ true)) ⌝ }
+    requires { ⌜ Encoded (now bytes) × (x < 1024) ⌝ }
     ensures { λ _. ⌜ now (bytes .exit) ≡ encode (withHolders (decode (now (bytes .entry))) (set (decode (now (bytes .entry)) .holders) x job)) ⌝ }
 {
     bytes[16 + 2 * x] = (job % 256) as u8;
     bytes[16 + 2 * x + 1] = (job / 256) as u8;
 }
 
+// Entry i of the map, set in place.
+fn set_direction(bytes: &mut [u8], i: usize, direction: u8)
+    requires { ⌜ Encoded (now bytes) × (i < 10) ⌝ }
+    ensures { λ _. ⌜ now (bytes .exit) ≡ encode (withMap (decode (now (bytes .entry))) (set (decode (now (bytes .entry)) .map) i direction)) ⌝ }
+{
+    bytes[5 + i] = direction;
+}
+
 // The map, set in place.
 pub fn set_map(bytes: &mut [u8], map: &[u8; 10])
     requires { ⌜ (length (now bytes) ≡ 3088) × (headRight (now bytes) ≡ true) ⌝ }
+    requires { ⌜ length (now map) ≡ 10 ⌝ }
     ensures { λ _. ⌜ now (bytes .exit) ≡ encode (withMap (decode (now (bytes .entry))) (now (map .entry))) ⌝ }
 {
     let mut i = 0;
     while i < 10 {
-        bytes[5 + i] = map[i];
+        set_direction(bytes, i, map[i]);
         i += 1;
     }
 }
@@ -254,22 +264,41 @@ pub fn count_held(bytes: &[u8], size: usize, job: u16) -> u16
     count
 }
 
+// Node y's holder once the subcube with this lowest node and these star bits is the job's: y is one of its nodes where y's other bits are the lowest's.
+fn after_grant(y: u16, first: u16, stars: u16, job: u16, holder: u16) -> u16
+    requires { ⌜ (y < 1024) × (first < 1024) ⌝ }
+    ensures { λ r. ⌜ r ≡ cond (eqb (first + bitAnd y stars) y) job holder ⌝ }
+{
+    if first + (y & stars) == y {
+        job
+    } else {
+        holder
+    }
+}
+
 // The job made the holder of each node of the subcube with this lowest node and these star bits.
-// Its nodes lie from the lowest to the one with all stars set; y is one where its other bits are the lowest's.
+// Its nodes lie from the lowest to the one with all stars set. A holder is stored at each number from one to the other, as in `clear`,
+// and the numbers are compared in 16 bits, so that the loop compiles to vector code.
 pub fn give(bytes: &mut [u8], low: Node, stars: u16, job: u16)
     requires { ⌜ (length (now bytes) ≡ 3088) × (headRight (now bytes) ≡ true) ⌝ }
     requires { ⌜ LowestOf stars (low .0) ⌝ }
     ensures { λ _. ⌜ now (bytes .exit) ≡ encode (withHolders (decode (now (bytes .entry))) (given (decode (now (bytes .entry)) .holders) (vertices width stars (low .0)) job)) ⌝ }
 {
     let first = low.0;
-    let last = first + stars;
-    let mut y = first;
-    while y <= last {
-        if first + (y & stars) == y {
-            set_holder(bytes, y as usize, job);
-        }
+    let end = (first + stars) as usize + 1;
+    let mut y = first as usize;
+    while y < end {
+        let h = after_grant(y as u16, first, stars, job, word(bytes, 16 + 2 * y));
+        set_holder(bytes, y, h);
         y += 1;
     }
+}
+
+// A holder once the job's nodes are unheld.
+fn without(holder: u16, job: u16) -> u16
+    ensures { λ r. ⌜ r ≡ cond (eqb holder job) 0 holder ⌝ }
+{
+    if holder == job { 0 } else { holder }
 }
 
 // Every node of the job made unheld. None from `size` up is held.
@@ -280,9 +309,8 @@ pub fn clear(bytes: &mut [u8], size: usize, job: u16)
 {
     let mut x = 0;
     while x < size {
-        if word(bytes, 16 + 2 * x) == job {
-            set_holder(bytes, x, 0);
-        }
+        let h = without(word(bytes, 16 + 2 * x), job);
+        set_holder(bytes, x, h);
         x += 1;
     }
 }

@@ -29,6 +29,10 @@ and-assoc : (a b c : Bool) → a && (b && c) ≡ (a && b) && c
 and-assoc true b c = refl
 and-assoc false b c = refl
 
+not-and : (a b : Bool) → not a || not b ≡ not (a && b)
+not-and true b = refl
+not-and false b = refl
+
 module _ (test : ℕ → Bool) where
   pub all-next : (i : ℕ) (b : Bool) → b ≡ allBelow test i → b && test i ≡ allBelow test (i + 1)
   unfolding allBelow
@@ -36,13 +40,6 @@ module _ (test : ℕ → Bool) where
 
   pub all-ends : (N i : ℕ) (b : Bool) → b ≡ allBelow test i → i ≤ N → N ≤ i → b ≡ allBelow test N
   all-ends = ends (allBelow test)
-
-  pub any-next : (i : ℕ) (b : Bool) → b ≡ anyBelow test i → b || test i ≡ anyBelow test (i + 1)
-  unfolding anyBelow
-  any-next i b e = rw (add-one i, e)
-
-  pub any-ends : (N i : ℕ) (b : Bool) → b ≡ anyBelow test i → i ≤ N → N ≤ i → b ≡ anyBelow test N
-  any-ends = ends (anyBelow test)
 
   pub count-next : (i k : ℕ) → k ≡ countBelow i test → k + cond (test i) 1 0 ≡ countBelow (i + 1) test
   unfolding countBelow
@@ -62,6 +59,12 @@ module _ (test : ℕ → Bool) where
       go false e =
           let z : countBelow N test ≡ 0 + countBelow N test = omega arith in
           or-false (anyBelow test N) ∙ e ∙ ap (λ (m : ℕ). not (eqb m 0)) z
+
+  -- some number fails where not all pass
+  pub any-not : (N : ℕ) → anyBelow (λ x. not (test x)) N ≡ not (allBelow test N)
+  unfolding anyBelow allBelow
+  any-not zero = refl
+  any-not (suc N) = ap (λ (b : Bool). b || not (test N)) (any-not N) ∙ not-and (allBelow test N) (test N)
 
   -- those below N, and the m from N on
   pub all-split : (N m : ℕ) → allBelow test (N + m) ≡ allBelow test N && allBelow (λ i. test (N + i)) m

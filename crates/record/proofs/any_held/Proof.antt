@@ -1,53 +1,40 @@
--- `allocator::any_held` meets its contract. The loop's invariant: whether a node passed is held. Assumes nothing.
-use Prim.Native.Nat.{_-_, _≤_}
-use mathlib.Core.Path.{_≡_, refl}
-use mathlib.Core.Bool.{not}
-use native.Mathlib.Omega.{arith}
-use lib.Dec.{eqb}
-use lib.ListN.{getD}
-use Rattle.state.specs.Valid.{anyBelow}
-use Rattle.state.proofs.Below.{any-next, any-ends}
-use Rattle.state.proofs.any_held.Statement.{statement}
-use Rattle.state.proofs.any_held.Tie as tie
+-- `record::any_held` meets its contract. Assumes nothing.
+use borrow.Author.Needs.{needs}
+use Rattle.record.proofs.Parts.{any-held}
+use Rattle.record.proofs.any_held.Statement.{statement}
+use Rattle.record.proofs.any_held.Tie as tie
 
-abbrev Inv-loop : tie.InvT-loop
-Inv-loop holders size found₀ x₀ found x = (found ≡ anyBelow (λ y. not (eqb (getD holders y 0) 0)) x) × (x ≤ size)
+mul-end : tie.Need-mul-end
+mul-end c = search needs
 
-abbrev μ-loop : tie.MeasureT-loop
-μ-loop holders size found₀ x₀ found x = size - x
+add-end : tie.Need-add-end
+add-end c = search needs
 
-loop-holds : tie.Need-loop-holds Inv-loop μ-loop
-unfolding anyBelow
-loop-holds c = (refl, omega arith)
+sub-highest : tie.Need-sub-highest
+sub-highest c = search needs
 
-mul-found : tie.Need-mul-found Inv-loop μ-loop
-mul-found c = omega arith
+part-highest-start : tie.Need-part-highest-start
+part-highest-start c = search needs
 
-element-copy-out-found : tie.Need-element-copy-out-found Inv-loop μ-loop
-element-copy-out-found c = omega arith
+part-highest-end : tie.Need-part-highest-end
+part-highest-end c = search needs
 
-add-x : tie.Need-add-x Inv-loop μ-loop
-add-x c = omega arith
+highest-requires : tie.Need-highest-requires
+highest-requires c κs = search needs
 
-loop-less : tie.Need-loop-less Inv-loop μ-loop
-loop-less c = omega arith
-
-loop-again : tie.Need-loop-again Inv-loop μ-loop
-loop-again c = (any-next _ _ _ (c .before .before .loop .inv .0), omega arith)
-
-returns : tie.Need-returns Inv-loop μ-loop
-returns c = any-ends _ _ _ _ (c .before .loop .inv .0) (omega arith) (omega arith)
+returns : tie.Need-returns
+returns c =
+    let a = c .before .before .before in
+    any-held _ _ (a .pre .0) (a .pre .1) (c .highest .ensures)
 
 pub any-held-spec : {M : Type 1} → statement M
 any-held-spec =
     tie.close
     (tie.spec
-    Inv-loop
-    μ-loop
-    loop-holds
-    mul-found
-    element-copy-out-found
-    add-x
-    loop-less
-    loop-again
+    mul-end
+    add-end
+    sub-highest
+    part-highest-start
+    part-highest-end
+    highest-requires
     returns)

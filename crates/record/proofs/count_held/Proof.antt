@@ -1,7 +1,7 @@
--- `allocator::count_held` meets its contract. The loop's invariant: how many of the nodes passed the job holds. Assumes nothing.
+-- `record::count_held` meets its contract. The loop's invariant: how many of the nodes passed the job holds. Assumes nothing.
 use Prim.Native.Nat.{ℕ, _-_, _≤_}
 use mathlib.Core.Logic.{⊎-elim}
-use mathlib.Core.Path.{_≡_, refl, _∙_}
+use mathlib.Core.Path.{_≡_, refl, sym, _∙_}
 use mathlib.Core.Bool.{Bool}
 use mathlib.Core.List.{List}
 use native.Mathlib.Omega.{arith}
@@ -9,29 +9,34 @@ use borrow.Author.Tests.{eq-eqb, ne-eqb}
 use lib.Dec.{eqb}
 use lib.ListN.{getD}
 use Rattle.hypercube.specs.Lists.{countBelow}
 use Rattle.state.proofs.Below.{count-next, count-ends}
-use Rattle.state.proofs.count_held.Statement.{statement}
-use Rattle.state.proofs.count_held.Tie as tie
+use Rattle.record.specs.Layout.{decode}
+use Rattle.record.proofs.Round.{decode-holder}
+use Rattle.record.proofs.count_held.Statement.{statement}
+use Rattle.record.proofs.count_held.Tie as tie
 
 -- node x is the job's
 abbrev its : List ℕ → ℕ → ℕ → Bool
-its hs j x = eqb (getD hs x 0) j
+its r j x = eqb (getD (decode r .holders) x 0) j
 
 abbrev Inv-loop : tie.InvT-loop
-Inv-loop holders size job count₀ x₀ count x = (count ≡ countBelow x (its holders job)) × (count ≤ x) × (x ≤ size)
+Inv-loop bytes size job count₀ x₀ count x = (count ≡ countBelow x (its bytes job)) × (count ≤ x) × (x ≤ size)
 
 abbrev μ-loop : tie.MeasureT-loop
-μ-loop holders size job count₀ x₀ count x = size - x
+μ-loop bytes size job count₀ x₀ count x = size - x
 
 loop-holds : tie.Need-loop-holds Inv-loop μ-loop
 unfolding countBelow
 loop-holds c = (refl, omega arith, omega arith)
 
-mul-if1 : tie.Need-mul-if1 Inv-loop μ-loop
-mul-if1 c = omega arith
+mul-word : tie.Need-mul-word Inv-loop μ-loop
+mul-word c = omega arith
 
-element-copy-out-if1 : tie.Need-element-copy-out-if1 Inv-loop μ-loop
-element-copy-out-if1 c = omega arith
+add-word : tie.Need-add-word Inv-loop μ-loop
+add-word c = omega arith
+
+word-requires : tie.Need-word-requires Inv-loop μ-loop
+word-requires c κs = omega arith
 
 add-count : tie.Need-add-count Inv-loop μ-loop
 add-count c = omega arith
@@ -45,13 +50,14 @@ loop-less c = omega arith
 loop-again : tie.Need-loop-again Inv-loop μ-loop
 loop-again c =
     let at = c .before .before .before in
-    let hs = at .before .args .holders .now in
-    let j = at .before .args .job in
+    let r = at .before .before .args .bytes .now in
+    let j = at .before .before .args .job in
     let x = at .loop .x in
-    let next = count-next (its hs j) x _ (at .loop .inv .0) in
+    let next = count-next (its r j) x _ (at .loop .inv .0) in
+    let h = decode-holder r x (omega arith) ∙ sym (c .before .word .ensures) in
     ⊎-elim
-    (λ w. (w .1 ∙ rw (eq-eqb (getD hs x 0) j (w .0 .taken)) at next, omega arith, omega arith))
-    (λ w. let n = rw (ne-eqb (getD hs x 0) j (w .0 .left)) at next in (omega arith, omega arith, omega arith))
+    (λ w. let n = rw (eq-eqb (getD (decode r .holders) x 0) j (h ∙ w .0 .taken)) at next in (w .1 ∙ n, omega arith, omega arith))
+    (λ w. let n = rw (ne-eqb (getD (decode r .holders) x 0) j (λ e. w .0 .left (sym h ∙ e))) at next in (omega arith, omega arith, omega arith))
     (c .if1 .came)
 
 returns : tie.Need-returns Inv-loop μ-loop
@@ -64,8 +70,9 @@ count-held-spec =
     Inv-loop
     μ-loop
     loop-holds
-    mul-if1
-    element-copy-out-if1
+    mul-word
+    add-word
+    word-requires
     add-count
     add-x
     loop-less

@@ -1,7 +1,7 @@
--- `allocator::without` meets its contract. Assumes nothing.
+-- `record::without` meets its contract. Assumes nothing.
 use borrow.Author.Tests.{eq-eqb, ne-eqb}
-use Rattle.state.proofs.without.Statement.{statement}
-use Rattle.state.proofs.without.Tie as tie
+use Rattle.record.proofs.without.Statement.{statement}
+use Rattle.record.proofs.without.Tie as tie
 
 returns : tie.Need-returns
 returns c = simp (eq-eqb _ _ (c .if1 .taken))
