@@ -103,9 +103,7 @@ fn tried_in(walk: Walk) -> u16
 
 // The walk of a request, over the flags by label.
 fn walk_of(rec: &[u8], map: &[u8; 10], k: u8, strategy: u8) -> Walk
-    requires { ⌜ validRecord (now rec) ≡ true ⌝ }
-    requires { ⌜ now map ≡ decode (now rec) .map ⌝ }
-    requires { ⌜ k ≤ decode (now rec) .n ⌝ }
+    requires { ⌜ (validRecord (now rec) ≡ true) × ((now map ≡ decode (now rec) .map) × (k ≤ decode (now rec) .n)) ⌝ }
     ensures { λ r. ⌜ r ≡ walkOf (decode (now (rec .entry))) k strategy ⌝ }
 {
     let n = record::dimension(rec) as u16;
@@ -116,8 +114,7 @@ fn walk_of(rec: &[u8], map: &[u8; 10], k: u8, strategy: u8) -> Walk
 
 // The grant of the first free member, by its lowest node and its star bits: "star bits too, are given in node numbers".
 fn grant_on(rec: &mut [u8], job: u16, k: u8, strategy: u8) -> Reply
-    requires { ⌜ validRecord (now rec) ≡ true ⌝ }
-    requires { ⌜ k ≤ decode (now rec) .n ⌝ }
+    requires { ⌜ (validRecord (now rec) ≡ true) × (k ≤ decode (now rec) .n) ⌝ }
     ensures { λ r. ⌜ Does (now (rec .entry)) (grantStep (decode (now (rec .entry))) job (walkOf (decode (now (rec .entry))) k strategy)) r (now (rec .exit)) ⌝ }
 {
     let map = record::load_map(rec);
