@@ -13,12 +13,12 @@ ghost use lib.Dec.{eqb};
 ghost use Rattle.hypercube.specs.Bits.{width};
 ghost use Rattle.hypercube.specs.Lists.{countBelow};
 ghost use Rattle.hypercube.specs.Subcubes.{vertices};
-ghost use Rattle.labels.specs.Flags.{byNode};
+ghost use Rattle.labels.specs.Flags.{EmptyFrom, byNode};
 ghost use Rattle.state.specs.States.{withCondition, withMap, withHolders, given, cleared};
 ghost use Rattle.state.specs.Valid.{anyBelow, nodesRight, valid};
 ghost use Rattle.record.specs.Layout.{encode, decode, Encoded, headRight, validRecord};
 ghost use Rattle.record.specs.Filled.{Stored};
-ghost use Rattle.record.specs.Holders.{LowestOf, EmptyFrom};
+ghost use Rattle.record.specs.Holders.{LowestOf};
 ghost use Rattle.record.specs.Highest.{highestOf};
 
 fn wide(b: u8) -> u16
