@@ -232,10 +232,10 @@ pub fn set_map(bytes: &mut [u8], map: &[u8; 10])
     requires { ⌜ length (now map) ≡ 10 ⌝ }
     ensures { λ _. ⌜ now (bytes .exit) ≡ encode (withMap (decode (now (bytes .entry))) (now (map .entry))) ⌝ }
 {
-    let mut i = 0;
-    while i < 10 {
-        set_direction(bytes, i, map[i]);
-        i += 1;
+    let mut d = 0;
+    while d < 10 {
+        set_direction(bytes, d, map[d]);
+        d += 1;
     }
 }
 
