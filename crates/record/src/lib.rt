@@ -277,8 +277,8 @@ fn after_grant(y: u16, first: u16, stars: u16, job: u16, holder: u16) -> u16
 }
 
 // The job made the holder of each node of the subcube with this lowest node and these star bits.
-// Its nodes lie from the lowest to the one with all stars set. A holder is stored at each number from one to the other, as in `clear`,
-// and the numbers are compared in 16 bits, so that the loop compiles to vector code.
+// Its nodes lie from the lowest to the one with all stars set. As in `clear`, a holder is stored at each number from one to the other, changed or not;
+// that and numbers of 16 bits make the loop compile to vector code.
 pub fn give(bytes: &mut [u8], low: Node, stars: u16, job: u16)
     requires { ⌜ (length (now bytes) ≡ 3088) × (headRight (now bytes) ≡ true) ⌝ }
     requires { ⌜ LowestOf stars (low .0) ⌝ }
@@ -301,7 +301,7 @@ fn without(holder: u16, job: u16) -> u16
     if holder == job { 0 } else { holder }
 }
 
-// Every node of the job made unheld. None from `size` up is held.
+// Every node of the job made unheld. None from `size` up is held. A holder is stored at each node, so the loop compiles to vector code.
 pub fn clear(bytes: &mut [u8], size: usize, job: u16)
     requires { ⌜ (length (now bytes) ≡ 3088) × (headRight (now bytes) ≡ true) ⌝ }
     requires { ⌜ EmptyFrom (decode (now bytes) .holders) size ⌝ }
