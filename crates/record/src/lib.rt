@@ -264,7 +264,7 @@ pub fn count_held(bytes: &[u8], size: usize, job: u16) -> u16
     count
 }
 
-// Node y's holder once the subcube with this lowest node and these star bits is the job's: y is one of its nodes where y's other bits are the lowest's.
+// Node y's holder once the job has the subcube with this lowest node and these star bits: y is one of its nodes where its other bits are the lowest's.
 fn after_grant(y: u16, first: u16, stars: u16, job: u16, holder: u16) -> u16
     requires { ⌜ (y < 1024) × (first < 1024) ⌝ }
     ensures { λ r. ⌜ r ≡ cond (eqb (first + bitAnd y stars) y) job holder ⌝ }
@@ -277,8 +277,8 @@ fn after_grant(y: u16, first: u16, stars: u16, job: u16, holder: u16) -> u16
 }
 
 // The job made the holder of each node of the subcube with this lowest node and these star bits.
-// Its nodes lie from the lowest to the one with all stars set. As in `clear`, a holder is stored at each number from one to the other, changed or not;
-// that and numbers of 16 bits make the loop compile to vector code.
+// Its nodes lie from the lowest to the one with all stars set. As in `clear`, a holder is stored at each number from one to the other,
+// changed or not; that and numbers of 16 bits make the loop compile to vector code.
 pub fn give(bytes: &mut [u8], low: Node, stars: u16, job: u16)
     requires { ⌜ (length (now bytes) ≡ 3088) × (headRight (now bytes) ≡ true) ⌝ }
     requires { ⌜ LowestOf stars (low .0) ⌝ }
