@@ -13,11 +13,12 @@ use Rattle.hypercube.specs.Lists.{from}
 use Rattle.hypercube.specs.Labels.{Permutes, node}
 use Rattle.hypercube.specs.declared.Node.{Node}
 use Rattle.hypercube.proofs.Bits.{lt-or}
+use Rattle.hypercube.proofs.Lists.{length-of, getD-each, map-same}
 use Rattle.hypercube.proofs.Labels.{node-below}
 use Rattle.labels.specs.Directions.{Directions, Own}
 use Rattle.labels.specs.Flags.{flag, table, byNode, numbered, nodeAt, nodes, EmptyFrom, movedAt, byLabel, flagAt, flags}
 use Rattle.labels.proofs.Directions.{node-own}
-use Rattle.labels.proofs.Filling.{written, written-more, written-at, written-all, length-of, getD-of, map-same, drop-replicate, getD-same}
+use Rattle.labels.proofs.Filling.{written, written-more, written-at, written-all, drop-replicate, getD-same}
 
 -- a cube has at most 1024 nodes
 pub cube-le : (n : ℕ) → n ≤ 10 → 2 ^ n ≤ 1024
@@ -38,7 +39,7 @@ module _ {A : Type 0} (c : ℕ) (f : ℕ → A) (z : A) where
   size = length-of f 0 c
 
   entry : (l : ℕ) → l < c → getD first l z ≡ f l
-  entry l h = getD-of f z c 0 l h ∙ ap f (omega arith)
+  entry = getD-each f z c
 
   pub table-at : (l : ℕ) → l < c → getD (table c f z) l z ≡ f l
   table-at l h = List·getD-append first rest z l (omega (arith, size)) ∙ entry l h

@@ -11,7 +11,7 @@ ghost use Rattle.hypercube.specs.Lists.{from};
 ghost use Rattle.hypercube.specs.Bits.{bit};
 ghost use Rattle.hypercube.specs.Labels.{label, node, differing, size, assign};
 ghost use Rattle.labels.specs.Directions.{Directions, Own};
-ghost use Rattle.labels.specs.Flags.{nodes, flagOf, byNode, EmptyFrom, byLabel};
+ghost use Rattle.labels.specs.Flags.{nodes, flagOf, EmptyFrom, byLabel};
 ghost use Rattle.labels.specs.Relabelling.{faulty, inMask, relabelling};
 
 // 2 to the e. As a loop's end, `1 << e` would keep the compiler from counting the turns and so from making vector code.
@@ -178,21 +178,6 @@ pub fn flag_of(condition: u8, holder: u16) -> u8
     ensures { λ r. ⌜ r ≡ flagOf condition holder ⌝ }
 {
     if condition == 1 && holder == 0 { 1 } else { 0 }
-}
-
-// The flags by node. Condition and holder are read at every node, so the loop compiles to vector code.
-pub fn flags_by_node<'a>(n: u16, conditions: &'a [u8; 1024], holders: &'a [u16; 1024]) -> [u8; 1024]
-    requires { ⌜ n ≤ 10 ⌝ }
-    ensures { λ r. ⌜ r ≡ byNode (2 ^ n) (now (conditions .entry)) (now (holders .entry)) ⌝ }
-{
-    let size = pow2(n) as usize;
-    let mut flags = [0; 1024];
-    let mut x: usize = 0;
-    while x < size {
-        flags[x] = flag_of(conditions[x], holders[x]);
-        x += 1;
-    }
-    flags
 }
 
 // Whether each direction maps to itself: each label is then its node's number.

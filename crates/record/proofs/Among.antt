@@ -2,8 +2,6 @@
 use Prim.Native.Nat.{ℕ, zero, suc, _+_, _*_, _/_, _^_, _<_}
 use mathlib.Core.Logic.{_↔_, inr, ⊎-elim}
 use mathlib.Core.Path.{_≡_, sym, _∙_}
-use mathlib.Core.Bool.{false≢true}
-use mathlib.Core.List.{List, [], _∷_}
 use native.Mathlib.Nat.{pow-succ'}
 use native.Mathlib.Omega.{arith}
 use lib.Dec.{eqb}
@@ -12,13 +10,9 @@ use Rattle.hypercube.specs.Bits.{bit}
 use Rattle.hypercube.specs.Lists.{In, among}
 use Rattle.hypercube.specs.Subcubes.{vertices}
 use Rattle.hypercube.proofs.Bits.{lt-or, bit-suc, bit-high, bit-cases}
-use Rattle.hypercube.proofs.Tests.{Means, means-eq, means-or, same-test}
+use Rattle.hypercube.proofs.Tests.{means-eq, same-test}
 use Rattle.hypercube.proofs.Vertices.{Fixed, in-vertices, vertices-in}
-
-means-among : (x : ℕ) (xs : List ℕ) → Means (among x xs) (In x xs)
-unfolding among
-means-among x [] = record { holds = λ e. false≢true e; shows = λ i. absurd i }
-means-among x (y ∷ ys) = means-or (means-eq x y) (means-among x ys)
+use Rattle.history.proofs.Counting.{means-among}
 
 -- y's bits other than the stars are b's
 abbrev Agrees : ℕ → ℕ → ℕ → ℕ → Type 0

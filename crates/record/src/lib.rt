@@ -13,12 +13,12 @@ ghost use lib.Dec.{eqb};
 ghost use Rattle.hypercube.specs.Bits.{width};
 ghost use Rattle.hypercube.specs.Lists.{countBelow};
 ghost use Rattle.hypercube.specs.Subcubes.{vertices};
-ghost use Rattle.labels.specs.Flags.{byNode};
+ghost use Rattle.labels.specs.Flags.{EmptyFrom, byNode};
 ghost use Rattle.state.specs.States.{withCondition, withMap, withHolders, given, cleared};
 ghost use Rattle.state.specs.Valid.{anyBelow, nodesRight, valid};
 ghost use Rattle.record.specs.Layout.{encode, decode, Encoded, headRight, validRecord};
 ghost use Rattle.record.specs.Filled.{Stored};
-ghost use Rattle.record.specs.Holders.{LowestOf, EmptyFrom};
+ghost use Rattle.record.specs.Holders.{LowestOf};
 ghost use Rattle.record.specs.Highest.{highestOf};
 
 fn wide(b: u8) -> u16
@@ -232,10 +232,10 @@ pub fn set_map(bytes: &mut [u8], map: &[u8; 10])
     requires { ⌜ length (now map) ≡ 10 ⌝ }
     ensures { λ _. ⌜ now (bytes .exit) ≡ encode (withMap (decode (now (bytes .entry))) (now (map .entry))) ⌝ }
 {
-    let mut i = 0;
-    while i < 10 {
-        set_direction(bytes, i, map[i]);
-        i += 1;
+    let mut d = 0;
+    while d < 10 {
+        set_direction(bytes, d, map[d]);
+        d += 1;
     }
 }
 
@@ -264,7 +264,7 @@ pub fn count_held(bytes: &[u8], size: usize, job: u16) -> u16
     count
 }
 
-// Node y's holder once the subcube with this lowest node and these star bits is the job's: y is one of its nodes where y's other bits are the lowest's.
+// Node y's holder once the job has the subcube with this lowest node and these star bits: y is one of its nodes where its other bits are the lowest's.
 fn after_grant(y: u16, first: u16, stars: u16, job: u16, holder: u16) -> u16
     requires { ⌜ (y < 1024) × (first < 1024) ⌝ }
     ensures { λ r. ⌜ r ≡ cond (eqb (first + bitAnd y stars) y) job holder ⌝ }
@@ -277,8 +277,8 @@ fn after_grant(y: u16, first: u16, stars: u16, job: u16, holder: u16) -> u16
 }
 
 // The job made the holder of each node of the subcube with this lowest node and these star bits.
-// Its nodes lie from the lowest to the one with all stars set. A holder is stored at each number from one to the other, as in `clear`,
-// and the numbers are compared in 16 bits, so that the loop compiles to vector code.
+// Its nodes lie from the lowest to the one with all stars set. As in `clear`, a holder is stored at each number from one to the other,
+// changed or not; that and numbers of 16 bits make the loop compile to vector code.
 pub fn give(bytes: &mut [u8], low: Node, stars: u16, job: u16)
     requires { ⌜ (length (now bytes) ≡ 3088) × (headRight (now bytes) ≡ true) ⌝ }
     requires { ⌜ LowestOf stars (low .0) ⌝ }
@@ -301,7 +301,7 @@ fn without(holder: u16, job: u16) -> u16
     if holder == job { 0 } else { holder }
 }
 
-// Every node of the job made unheld. None from `size` up is held.
+// Every node of the job made unheld. None from `size` up is held. A holder is stored at each node, so the loop compiles to vector code.
 pub fn clear(bytes: &mut [u8], size: usize, job: u16)
     requires { ⌜ (length (now bytes) ≡ 3088) × (headRight (now bytes) ≡ true) ⌝ }
     requires { ⌜ EmptyFrom (decode (now bytes) .holders) size ⌝ }

@@ -14,17 +14,13 @@ use Rattle.hypercube.specs.Bits.{width}
 use Rattle.hypercube.specs.Lists.{Some}
 use Rattle.hypercube.specs.Labels.{Permutes}
 use Rattle.hypercube.proofs.Bits.{lt-or}
-use Rattle.hypercube.proofs.Tests.{Means, means-eq, means-le, means-not, means-and, means-or}
+use Rattle.hypercube.proofs.Tests.{Means, means-iff, means-eq, means-le, means-not, means-and, means-or}
 use Rattle.state.specs.declared.State.{State}
 pub use Rattle.state.specs.Valid.{Valid}
 use Rattle.state.specs.Valid.{allBelow, anyBelow, entryRight, mapRight, nodeRight, nodesRight, valid}
 use Rattle.state.proofs.Below.{all-split, all-same}
 
 -- ---- tests below a number
-
--- a test stands for a fact that follows from its own, and from which its own follows
-pub means-same : {b : Bool} {P Q : Type 0} → Means b P → P ↔ Q → Means b Q
-means-same m e = record { holds = λ h. e .0 (m .holds h); shows = λ q. m .shows (e .1 q) }
 
 pub means-true : {b : Bool} → Means b (b ≡ true)
 means-true = record { holds = λ e. e; shows = λ e. e }
@@ -39,7 +35,7 @@ below-next P N = (
 pub means-all : (test : ℕ → Bool) (N : ℕ) → Means (allBelow test N) ((x : ℕ) → x < N → test x ≡ true)
 unfolding allBelow
 means-all test zero = record { holds = λ e x l. absurd (omega arith); shows = λ h. refl }
-means-all test (suc N) = means-same (means-and (means-all test N) means-true) (below-next (λ x. test x ≡ true) N)
+means-all test (suc N) = means-iff (means-and (means-all test N) means-true) (below-next (λ x. test x ≡ true) N)
 
 some-next : (P : ℕ → Type 0) (N : ℕ) → (Some N P ⊎ P N) ↔ Some (suc N) P
 some-next P N = (
@@ -50,20 +46,20 @@ some-next P N = (
 pub means-any : (test : ℕ → Bool) (N : ℕ) → Means (anyBelow test N) (Some N (λ x. test x ≡ true))
 unfolding anyBelow
 means-any test zero = record { holds = λ e. absurd (false≢true e); shows = λ h. absurd (omega (arith, h .1)) }
-means-any test (suc N) = means-same (means-or (means-any test N) means-true) (some-next (λ x. test x ≡ true) N)
+means-any test (suc N) = means-iff (means-or (means-any test N) means-true) (some-next (λ x. test x ≡ true) N)
 
 -- a test at each number below N stands for a fact of each
 pub means-each : (test : ℕ → Bool) (P : ℕ → Type 0) (N : ℕ) → ((x : ℕ) → x < N → Means (test x) (P x))
     → Means (allBelow test N) ((x : ℕ) → x < N → P x)
 means-each test P N m =
-    means-same (means-all test N) (λ h x l. m x l .holds (h x l), λ h x l. m x l .shows (h x l))
+    means-iff (means-all test N) (λ h x l. m x l .holds (h x l), λ h x l. m x l .shows (h x l))
 
 -- a test that goes by whether x is below N
 means-either : (x N : ℕ) {a b : Bool} {P Q : Type 0} → Means a P → Means b Q
     → Means (cond (ltb x N) a b) ((x < N → P) × (N ≤ x → Q))
 means-either x N {a} {b} {P} {Q} m k =
-    ⊎-elim (λ l. rw (lt-ltb x N l) (means-same m (λ p. (λ i. p, λ g. absurd (omega arith)), λ h. h .0 l)))
-    (λ g. rw (le-ltb x N g) (means-same k (λ q. (λ l. absurd (omega arith), λ i. q), λ h. h .1 g)))
+    ⊎-elim (λ l. rw (lt-ltb x N l) (means-iff m (λ p. (λ i. p, λ g. absurd (omega arith)), λ h. h .0 l)))
+    (λ g. rw (le-ltb x N g) (means-iff k (λ q. (λ l. absurd (omega arith), λ i. q), λ h. h .1 g)))
     (lt-or x N)
 
 -- ---- the map
@@ -105,7 +101,7 @@ module _ (ds : List ℕ) (n : ℕ) (small : n ≤ 10) (long : length ds ≡ 10) 
   pub means-map : Means (mapRight ds n) (Permutes n ds)
   unfolding mapRight
   means-map =
-      means-same (means-each (entryRight ds n) (Entry ds n) width (λ i l. means-entry ds n i)) (permutes-of, entries-of)
+      means-iff (means-each (entryRight ds n) (Entry ds n) width (λ i l. means-entry ds n i)) (permutes-of, entries-of)
 
 -- ---- the nodes
 
@@ -138,7 +134,7 @@ Parts s = (s .n ≤ 10) × (Permutes (s .n) (s .map) × ((x : ℕ) → x < 1024 
 pub means-valid : (s : State) → length (s .map) ≡ 10 → Means (valid s) (Valid s)
 unfolding valid
 means-valid s long =
-    means-same
+    means-iff
     (means-then (means-le (s .n) 10)
     (λ small. means-and (means-map (s .map) (s .n) small long) (means-nodes (s .holders) (s .conditions) (2 ^ s .n))))
     (together, apart)

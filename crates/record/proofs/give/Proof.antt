@@ -12,9 +12,10 @@ use lib.ListN.{getD}
 use Rattle.hypercube.specs.Bits.{width}
 use Rattle.hypercube.specs.Lists.{from, among}
 use Rattle.hypercube.specs.Subcubes.{vertices}
+use Rattle.hypercube.proofs.Lists.{length-of, getD-each}
 use Rattle.record.specs.Layout.{decode}
 use Rattle.record.specs.Holders.{LowestOf}
-use Rattle.record.proofs.Round.{encode-decode, sized-decode, encoded-long, length-each, getD-each}
+use Rattle.record.proofs.Round.{encode-decode, sized-decode, encoded-long}
 use Rattle.record.proofs.Among.{among-sum, top-below}
 use Rattle.record.proofs.Sweeps.{Sweeping, the-holders, sweeping-none, sweeping-encoded, sweeping-put, sweeping-all, holder-next}
 use Rattle.record.proofs.give.Statement.{statement}
@@ -120,8 +121,8 @@ returns c =
     let j = start .args .job in
     let z = sized-decode (start .args .bytes .now) in
     let f : ℕ → ℕ = holder hs s b j in
-    sweeping-all z (at .loop .inv .0) (map f (from 0 1024)) (length-each f 1024 ∙ sym (z .holders))
-    (λ k h. getD-each f 1024 k (omega (arith, z .holders)))
+    sweeping-all z (at .loop .inv .0) (map f (from 0 1024)) (length-of f 0 1024 ∙ sym (z .holders))
+    (λ k h. getD-each f 0 1024 k (omega (arith, z .holders)))
     (λ k a h. keeps hs s b j (start .pre .1) k (omega (arith, z .holders)) (λ e. omega (arith, and-le-r k s)))
 
 pub give-spec : {M : Type 1} → statement M

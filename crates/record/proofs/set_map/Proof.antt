@@ -10,10 +10,10 @@ use Rattle.record.proofs.set_map.Statement.{statement}
 use Rattle.record.proofs.set_map.Tie as tie
 
 abbrev Inv-loop : tie.InvT-loop
-Inv-loop bytes₀ map i₀ bytes i = Sweeping the-map (decode bytes₀) (λ k. getD map k 0) i bytes × (i ≤ 10)
+Inv-loop bytes₀ map d₀ bytes d = Sweeping the-map (decode bytes₀) (λ k. getD map k 0) d bytes × (d ≤ 10)
 
 abbrev μ-loop : tie.MeasureT-loop
-μ-loop bytes₀ map i₀ bytes i = 10 - i
+μ-loop bytes₀ map d₀ bytes d = 10 - d
 
 loop-holds : tie.Need-loop-holds Inv-loop μ-loop
 loop-holds c =
@@ -26,8 +26,8 @@ element-copy-out-set-direction c = omega arith
 set-direction-requires : tie.Need-set-direction-requires Inv-loop μ-loop
 set-direction-requires c κs = (sweeping-encoded (sized-decode _) (c .before .before .before .loop .inv .0), omega arith)
 
-add-i : tie.Need-add-i Inv-loop μ-loop
-add-i c = omega arith
+add-d : tie.Need-add-d Inv-loop μ-loop
+add-d c = omega arith
 
 loop-less : tie.Need-loop-less Inv-loop μ-loop
 loop-less c = omega arith
@@ -57,7 +57,7 @@ set-map-spec =
     loop-holds
     element-copy-out-set-direction
     set-direction-requires
-    add-i
+    add-d
     loop-less
     loop-again
     same-length

@@ -1,21 +1,24 @@
--- `state::node_count` meets its contract: a shift by less than the width loses nothing. Assumes nothing.
+-- `state::node_count` meets its contract. Assumes nothing.
 use borrow.Author.Needs.{needs}
-use Prim.Native.Nat.{_^_}
-use mathlib.Core.Path.{_∙_}
-use native.Mathlib.Nat.{one-mul}
 use native.Mathlib.Omega.{arith}
-use lib.Dec.{lit<}
-use lib.Pow.{shl-exact, pow-mono}
+use lib.Pow.{pow-mono}
+use Rattle.hypercube.proofs.Bits.{power-shifted}
 use Rattle.state.proofs.node_count.Statement.{statement}
 use Rattle.state.proofs.node_count.Tie as tie
 
-shl-result : tie.Need-shl-result
-shl-result c = search needs
+sub-result : tie.Need-sub-result
+sub-result c = search needs
+
+cast-result : tie.Need-cast-result
+cast-result c = search needs
+
+shr-result : tie.Need-shr-result
+shr-result c = search needs
 
 returns : tie.Need-returns
 returns c =
-    let e = shl-exact 1 (c .args .n) 64 (lit< tt) (omega arith) ∙ one-mul (2 ^ c .args .n) in
+    let e = power-shifted 10 (c .args .n) (omega arith) in
     (e, rw e (pow-mono {i = c .args .n} {j = 10} (omega arith)))
 
 pub node-count-spec : {M : Type 1} → statement M
-node-count-spec = tie.close (tie.spec shl-result returns)
+node-count-spec = tie.close (tie.spec sub-result cast-result shr-result returns)
