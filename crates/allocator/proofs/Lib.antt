@@ -1,7 +1,4 @@
--- The laws of states, and of what the six calls do to them.
-pub mod Valid
-pub mod Below
-pub mod Steps
-pub mod Among
-pub mod Sweeps
+-- The laws of the six calls on a record, and on a state by way of one.
+pub mod Ways
+pub mod Keeps
 pub mod Grants

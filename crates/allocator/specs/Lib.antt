@@ -1,6 +1,2 @@
--- What the six calls do to a state.
-pub mod States
-pub mod Valid
-pub mod Acts
-pub mod Holders
-pub mod Tried
+-- What the six calls do to a record.
+pub mod Carried

@@ -1,33 +1,33 @@
 -- A call on the bytes of a state is answered what the history says, and leaves the bytes of the state that the history goes on with. Assumes nothing.
 use mathlib.Core.Path.{_≡_, refl, ap, _∙_, subst}
-use mathlib.Core.Logic.{_⊎_, inl, inr, ⊎-elim}
-use mathlib.Core.Bool.{true, false, cond}
+use mathlib.Core.Bool.{true, false}
 use mathlib.Core.List.{List}
 use mathlib.Core.Option.{Option}
 use Prim.Native.Nat.{ℕ, _≤_}
 use native.Mathlib.Omega.{arith}
-use borrow.Author.Tests.{eq-eqb, ne-eqb}
-use lib.Dec.{eqb, ltb}
+use lib.Dec.{ltb}
 use lib.ListN.{length}
 use Rattle.hypercube.proofs.Tests.{cases}
 use Rattle.history.specs.Calls.{kind}
 use Rattle.history.specs.Account.{History}
 use Rattle.history.specs.Verdicts.{Verdict, refused, stepBy, verdictBy, step, verdict}
-use Rattle.history.specs.Claims.{Accepted, Bounded}
-use Rattle.allocator.specs.declared.State.{State}
-use Rattle.allocator.specs.declared.Step.{Step}
-use Rattle.allocator.specs.Acts.{numberOf}
-use Rattle.allocator.proofs.Valid.{Valid, means-valid}
+use Rattle.history.specs.Claims.{Bounded}
+use Rattle.state.specs.declared.State.{State}
+use Rattle.state.specs.declared.Step.{Step}
+use Rattle.state.proofs.Valid.{Valid, means-valid}
 use Rattle.record.specs.Layout.{encode, validRecord}
 use Rattle.record.proofs.Round.{Sized, decode-encode, valid-encode}
+use Rattle.frames.specs.declared.Parsed.{Parsed}
+use Rattle.frames.specs.declared.Parsed.the-variants.{Known, Bad}
 use Rattle.frames.specs.Parse.{parsed}
+use Rattle.allocator.proofs.Keeps.{Kept, kept-all, kept, stored-kept}
 use Rattle.cube.specs.Called.{stepOf, stepOn, callNumber, callRecord, callReply}
 use Rattle.cube.specs.Run.{Exchange, fed, returns, replies}
 use Rattle.cube.proofs.Tested.{rung, frameTests, cause-tested}
 use Rattle.cube.proofs.View.{view}
-use Rattle.cube.proofs.Acts.{said, Does}
+use Rattle.cube.proofs.Acts.{Does}
 use Rattle.cube.proofs.Framed.{does}
-use Rattle.cube.proofs.Heard.{Plain, accepted-zero, number-said, plain-said, reply-said}
+use Rattle.cube.proofs.Heard.{Plain, number-said, plain-said, reply-said}
 
 -- the bytes r are those of a state that the history h is read from
 pub record Stands (n : ℕ) (h : History) (r : List ℕ) : Type 0 where
@@ -59,6 +59,11 @@ module _ (s : State) (z : Sized s) (w : Valid s) (e : Exchange) where
     next = record { state = s; bytes = rw (passes, l); sized = z; dimension = refl; viewed = refl };
   }
 
+  -- what any frame keeps
+  kept-frame : (p : Parsed) → Kept s (stepOf s p)
+  kept-frame (Known c) = kept s z (w .small) c
+  kept-frame (Bad m) = kept-all s z _
+
   -- with room: the first cause from row 3 on, and what the frame does
   abbrev first : Option ℕ
   first = frameTests (s .n) (view s) (fed e) (kind (fed e))
@@ -66,14 +71,14 @@ module _ (s : State) (z : Sized s) (w : Valid s) (e : Exchange) where
   long : ltb (length (e .buffer)) 12 ≡ false → Answers (s .n) (verdictBy (s .n) first (view s) (fed e)) (stepBy (s .n) first (view s) (fed e)) e (encode s)
   unfolding callNumber callReply callRecord stepOn
   long l = record {
-    plain = subst Plain (D .told) (plain-said (t .reply) end);
+    plain = subst Plain (D .told) (plain-said (t .reply) (D .ends));
     returned = rw (passes, l, decode-encode s z) (number-said (t .reply) ∙ ap returns (D .told));
-    replied = rw (passes, l, decode-encode s z) (reply-said (t .reply) (e .buffer) end ∙ ap (λ (v : Verdict). replies v (e .buffer)) (D .told));
+    replied = rw (passes, l, decode-encode s z) (reply-said (t .reply) (e .buffer) (D .ends) ∙ ap (λ (v : Verdict). replies v (e .buffer)) (D .told));
     next = record {
       state = t .state;
-      bytes = rw (passes, l, decode-encode s z) (stored (D .ends));
-      sized = D .sized;
-      dimension = D .same-n;
+      bytes = rw (passes, l, decode-encode s z) (stored-kept s z t K);
+      sized = K .sized;
+      dimension = K .same-n;
       viewed = D .stands;
     };
   }
@@ -84,13 +89,8 @@ module _ (s : State) (z : Sized s) (w : Valid s) (e : Exchange) where
       D : Does s (fed e) t first
       D = does s z w (fed e)
 
-      end : Accepted (said (t .reply)) ⊎ (3 ≤ numberOf (t .reply))
-      end = ⊎-elim inl (λ q. inr (q .0)) (D .ends)
-
-      stored : Accepted (said (t .reply)) ⊎ ((3 ≤ numberOf (t .reply)) × (t .state ≡ s))
-          → cond (eqb (numberOf (t .reply)) 0) (encode (t .state)) (encode s) ≡ encode (t .state)
-      stored (inl a) = rw (eq-eqb (numberOf (t .reply)) 0 (number-said (t .reply) ∙ accepted-zero (said (t .reply)) a))
-      stored (inr q) = rw (ne-eqb (numberOf (t .reply)) 0 (λ k. omega (arith, q .0)), q .1)
+      K : Kept s t
+      K = kept-frame (parsed (e .frame))
 
   on-state : Answers (s .n) (verdict (s .n) (view s) (fed e)) (step (s .n) (view s) (fed e)) e (encode s)
   unfolding verdict step rung

@@ -5,11 +5,11 @@ use lib.Dec.{eqb, ltb}
 use lib.ListN.{length}
 use Rattle.hypercube.proofs.Tests.{cases}
 use Rattle.history.specs.Calls.{Call, Kind, good, fault, repaired, relabel, request, release, other, word, kindOf, lengthField, kind, nodeField, job, dimension, strategy, size}
-use Rattle.allocator.specs.declared.State.{State}
-use Rattle.allocator.specs.declared.Call as alloc
-use Rattle.allocator.specs.declared.Call.the-variants.{Good, Fault, Repaired, Relabel, Request, Release}
-use Rattle.allocator.specs.Acts.{acted}
-use Rattle.allocator.proofs.Valid.{Valid}
+use Rattle.state.specs.declared.State.{State}
+use Rattle.state.specs.declared.Call as alloc
+use Rattle.state.specs.declared.Call.the-variants.{Good, Fault, Repaired, Relabel, Request, Release}
+use Rattle.state.specs.Acts.{acted}
+use Rattle.state.proofs.Valid.{Valid}
 use Rattle.record.proofs.Round.{Sized}
 use Rattle.frames.specs.Parse.{sized, byKind, parsed}
 use Rattle.cube.specs.Called.{stepOf}

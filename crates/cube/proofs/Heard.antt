@@ -10,9 +10,9 @@ use Rattle.hypercube.proofs.Tests.{cases}
 use Rattle.history.specs.Calls.{word}
 use Rattle.history.specs.Verdicts.{Verdict, granted, refused, done}
 use Rattle.history.specs.Claims.{Accepted}
-use Rattle.allocator.specs.declared.Reply.{Reply}
-use Rattle.allocator.specs.declared.Reply.the-variants.{Granted, Refused, Done}
-use Rattle.allocator.specs.Acts.{numberOf}
+use Rattle.state.specs.declared.Reply.{Reply}
+use Rattle.state.specs.declared.Reply.the-variants.{Granted, Refused, Done}
+use Rattle.state.specs.Acts.{numberOf}
 use Rattle.record.specs.Layout.{words}
 use Rattle.frames.specs.Answer.{frameOf, written}
 use Rattle.cube.specs.Run.{returns, replies, heard}

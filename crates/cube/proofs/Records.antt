@@ -8,7 +8,7 @@ use lib.ListN.{length, getD}
 use Rattle.history.specs.Calls.{word}
 use Rattle.history.specs.Account.{History}
 use Rattle.history.specs.Claims.{Bounded}
-use Rattle.allocator.proofs.Valid.{means-valid}
+use Rattle.state.proofs.Valid.{means-valid}
 use Rattle.record.proofs.Round.{length-encode, encode-n, valid-encode, encode-map, encode-holder, encode-condition}
 use Rattle.cube.specs.Demand3.{Recorded}
 use Rattle.cube.proofs.Answers.{Stands, valid-stands}

@@ -11,15 +11,15 @@ use lib.Dec.{eqb, ltb}
 use Rattle.hypercube.specs.Lists.{Some}
 use Rattle.hypercube.specs.declared.Walk.{Walk}
 use Rattle.hypercube.specs.declared.Walk.the-variants.{Found, NoneFree}
-use Rattle.hypercube.proofs.Tests.{Means, means-eq, means-lt, means-not, means-and, means-or}
+use Rattle.hypercube.proofs.Tests.{Means, means-iff, means-eq, means-lt, means-not, means-and, means-or}
 use Rattle.hypercube.proofs.Search.{first-in}
 use Rattle.history.specs.Calls.{Call, Kind, good, fault, repaired, relabel, request, release, other, Kind-discrete, lengthField, kind, nodeField, job, dimension, strategy, size}
 use Rattle.history.specs.Account.{History}
 use Rattle.history.specs.Causes.{Row, Decided, causes, NoMemberFree}
 use Rattle.history.specs.Verdicts.{firstMet, decided, cause, chosen}
 use Rattle.history.proofs.Chosen.{chosen-first, chosen-none}
-use Rattle.allocator.specs.Valid.{anyBelow}
-use Rattle.allocator.proofs.Valid.{means-same, means-any}
+use Rattle.state.specs.Valid.{anyBelow}
+use Rattle.state.proofs.Valid.{means-any}
 
 -- ---- the tests of the rows
 
@@ -39,7 +39,7 @@ means-from a b = record { holds = λ e. ltb-false a b (not-true (ltb a b) e); sh
 
 means-some : (test : ℕ → Bool) (P : ℕ → Type 0) (N : ℕ) → ((x : ℕ) → Means (test x) (P x)) → Means (anyBelow test N) (Some N P)
 means-some test P N m =
-    means-same (means-any test N) (λ r. (r .0, r .1, m (r .0) .holds (r .2)), λ r. (r .0, r .1, m (r .0) .shows (r .2)))
+    means-iff (means-any test N) (λ r. (r .0, r .1, m (r .0) .holds (r .2)), λ r. (r .0, r .1, m (r .0) .shows (r .2)))
 
 -- a walk found no member
 abbrev pub noneIn : Walk → Bool

@@ -11,7 +11,7 @@ use Rattle.history.specs.Verdicts.{verdict, verdicts}
 use Rattle.history.specs.Held.{held, heldAfter}
 use Rattle.history.specs.Claims.{Bounded, HeldRight}
 use Rattle.history.proofs.Theorem.{history-right}
-use Rattle.allocator.specs.States.{freshState}
+use Rattle.state.specs.States.{freshState}
 use Rattle.cube.specs.Called.{setupNumber, setupRecord, delivered}
 use Rattle.cube.specs.Run.{Exchange, Exchanges, begin, _next_, fed, feed, heard, recordAfter, number, reply, heldAt, historyAt}
 use Rattle.cube.specs.Demand3.{Demand3}

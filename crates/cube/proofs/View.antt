@@ -13,16 +13,16 @@ use Rattle.hypercube.specs.Lists.{In, among, from}
 use Rattle.hypercube.specs.Labels.{node}
 use Rattle.hypercube.specs.Families.{choice}
 use Rattle.hypercube.proofs.Bits.{lt-or}
+use Rattle.hypercube.proofs.Lists.{length-of, getD-each}
 use Rattle.hypercube.proofs.Tests.{cases, refutes, same-test}
 use Rattle.hypercube.proofs.Families.{choice-same}
 use Rattle.history.specs.Account.{History, put, putAll, wipe, freeLabel}
 use Rattle.history.proofs.Counting.{means-among}
 use Rattle.labels.specs.Flags.{flag, flags}
 use Rattle.walks.specs.Flagged.{flagged}
-use Rattle.allocator.specs.declared.State.{State}
-use Rattle.allocator.specs.States.{given, cleared}
-use Rattle.allocator.specs.Acts.{walkOf}
-use Rattle.record.proofs.Round.{length-each, getD-each}
+use Rattle.state.specs.declared.State.{State}
+use Rattle.state.specs.States.{given, cleared}
+use Rattle.state.specs.Acts.{walkOf}
 
 -- the entry at a place, 0 beyond the list
 abbrev pub entry : List ℕ → ℕ → ℕ
@@ -59,12 +59,12 @@ entry-given l xs ys j e same b = fun-ext (λ y. ⊎-elim (inside y) (beyond y) (
     listed y = same-test (means-among y xs) (means-among y ys) (same y)
 
     inside : (y : ℕ) → y < 1024 → getD (given l xs j) y 0 ≡ putAll (entry l) ys j y
-    inside y h = getD-each f 1024 y h ∙ ap {B = ℕ} (λ (d : Bool). cond d j (getD l y 0)) (listed y)
+    inside y h = getD-each f 0 1024 y h ∙ ap {B = ℕ} (λ (d : Bool). cond d j (getD l y 0)) (listed y)
 
     beyond : (y : ℕ) → 1024 ≤ y → getD (given l xs j) y 0 ≡ putAll (entry l) ys j y
     beyond y h =
         let out : among y ys ≡ false = sym (listed y) ∙ refutes (means-among y xs) (λ i. omega (arith, b y i)) in
-        rw (out, List·getD-eq-default l 0 {n = y} (omega arith)) (List·getD-eq-default (map f (from 0 1024)) 0 {n = y} (omega (arith, length-each f 1024)))
+        rw (out, List·getD-eq-default l 0 {n = y} (omega arith)) (List·getD-eq-default (map f (from 0 1024)) 0 {n = y} (omega (arith, length-of f 0 1024)))
 
 -- ---- the walk
 
@@ -79,7 +79,7 @@ flagged-free s l b =
     let f : ℕ → ℕ = λ l. flag (s .conditions) (s .holders) (node (s .map) l) in
     let N = 2 ^ s .n in
     ap (λ (z : ℕ). eqb z 1)
-    (List·getD-append (map f (from 0 N)) (replicate (1024 - N) 0) 0 l (omega (arith, length-each f N)) ∙ getD-each f N l b)
+    (List·getD-append (map f (from 0 N)) (replicate (1024 - N) 0) 0 l (omega (arith, length-of f 0 N)) ∙ getD-each f 0 N l b)
     ∙ free-is (freeLabel (view s) l)
 
 -- a request's walk goes by the history's free labels

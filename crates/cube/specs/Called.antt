@@ -5,10 +5,10 @@ use mathlib.Core.Path.{_≡_}
 use mathlib.Core.List.{List}
 use lib.Dec.{eqb, ltb, leb}
 use lib.ListN.{length}
-use Rattle.allocator.specs.declared.State.{State}
-use Rattle.allocator.specs.declared.Step.{Step}
-use Rattle.allocator.specs.States.{freshState}
-use Rattle.allocator.specs.Acts.{numberOf, refuse, acted}
+use Rattle.state.specs.declared.State.{State}
+use Rattle.state.specs.declared.Step.{Step}
+use Rattle.state.specs.States.{freshState}
+use Rattle.state.specs.Acts.{numberOf, refuse, acted}
 use Rattle.record.specs.Layout.{encode, decode, validRecord}
 use Rattle.frames.specs.declared.Parsed.{Parsed}
 use Rattle.frames.specs.declared.Parsed.the-variants.{Known, Bad}

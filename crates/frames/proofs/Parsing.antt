@@ -9,8 +9,8 @@ use borrow.Author.Tests.{eq-eqb, ne-eqb, lt-ltb, le-ltb, eqb-true}
 use lib.Dec.{eqb}
 use lib.ListN.{length, getD}
 use Rattle.history.specs.Calls.{Kind, good, fault, repaired, relabel, request, release, other, word, kindOf, size}
-use Rattle.allocator.specs.declared.Call.{Call}
-use Rattle.allocator.specs.declared.Call.the-variants.{Good, Fault, Repaired, Relabel, Request, Release}
+use Rattle.state.specs.declared.Call.{Call}
+use Rattle.state.specs.declared.Call.the-variants.{Good, Fault, Repaired, Relabel, Request, Release}
 use Rattle.frames.specs.declared.Parsed.the-variants.{Known, Bad}
 use Rattle.frames.specs.Parse.{sized, byKind, parsed}
 

@@ -1,22 +1,18 @@
 -- Numbers written as words in the place of a buffer's first bytes. Assumes nothing.
 use Prim.Native.Nat.{ℕ, zero, suc, _+_, _*_, _<_, _≤_}
-use mathlib.Core.Path.{_≡_, refl, sym, ap, _∙_}
+use mathlib.Core.Path.{_≡_, sym, ap, _∙_}
 use mathlib.Core.List.{List, [], _∷_, _++_}
 use native.Mathlib.Numerals.{add-one}
 use native.Mathlib.Omega.{arith}
 use lib.ListN.{length, getD, drop, length-append, length-drop, drop-of-length-le}
 use lib.Seq.{sets, sets-eq, drop-cons}
 use Rattle.history.specs.Calls.{word}
-use Rattle.allocator.specs.declared.Reply.{Reply}
-use Rattle.allocator.specs.declared.Reply.the-variants.{Granted, Refused, Done}
+use Rattle.state.specs.declared.Reply.{Reply}
+use Rattle.state.specs.declared.Reply.the-variants.{Granted, Refused, Done}
 use Rattle.record.specs.Layout.{words}
+use Rattle.record.proofs.Round.{length-words}
 use Rattle.frames.specs.Parts.{putWord}
 use Rattle.frames.specs.Answer.{fields, frameOf, written}
-
-pub length-words : (xs : List ℕ) → length (words xs) ≡ 2 * length xs
-unfolding words
-length-words [] = refl
-length-words (x ∷ xs) = omega (arith, length-words xs)
 
 -- the numbers are read back
 pub word-words : (xs rest : List ℕ) (i : ℕ) → i < length xs → word (words xs ++ rest) (2 * i) ≡ getD xs i 0

@@ -2,8 +2,8 @@
 use Prim.Native.Nat.{ℕ, _%_, _/_}
 use mathlib.Core.List.{List, [], _∷_, _++_}
 use lib.ListN.{length, drop}
-use Rattle.allocator.specs.declared.Reply.{Reply}
-use Rattle.allocator.specs.declared.Reply.the-variants.{Granted, Refused, Done}
+use Rattle.state.specs.declared.Reply.{Reply}
+use Rattle.state.specs.declared.Reply.the-variants.{Granted, Refused, Done}
 use Rattle.record.specs.Layout.{words}
 
 -- length, kind, values: granted job, lowest node, star bits, tried; refused number, tried; done value

@@ -1,11 +1,12 @@
 // Frames to calls, and replies to frames. Document 01, "Six calls and their frames".
-use allocator::Call;
-use allocator::Reply;
 use hypercube::Node;
+use record::word;
+use state::Call;
+use state::Reply;
 ghost use mathlib.Core.Path.{_≡_};
 ghost use Prim.Native.Nat.{ℕ, _+_, _*_, _≤_, _<_};
 ghost use lib.ListN.{length};
-ghost use Rattle.history.specs.Calls.{word, kindOf, size};
+ghost use Rattle.history.specs.Calls.{kindOf, size};
 ghost use Rattle.record.specs.Layout.{words};
 ghost use Rattle.frames.specs.declared.Parsed.the-variants.{Known};
 ghost use Rattle.frames.specs.Parse.{byKind, parsed};
@@ -30,22 +31,6 @@ const RELABEL: u16 = 0x0203;
 const REQUEST: u16 = 0x0201;
 
 const RELEASE: u16 = 0x0202;
-
-fn wide(x: u8) -> u16
-    ensures { λ r. ⌜ (r ≡ x) × (r < 256) ⌝ }
-{
-    x as u16
-}
-
-// The two bytes from place `at` on, little-endian.
-pub fn word(bytes: &[u8], at: usize) -> u16
-    requires { ⌜ at + 1 < length (now bytes) ⌝ }
-    ensures { λ r. ⌜ r ≡ word (now (bytes .entry)) at ⌝ }
-{
-    let low = wide(bytes[at]);
-    let high = wide(bytes[at + 1]);
-    low + 256 * high
-}
 
 // The length of a kind, and 0 for a number that is none of the six.
 fn size_of(kind: u16) -> usize

@@ -177,6 +177,12 @@ power-other p i ne = rw (zero-add (2 ^ p)) at (set-other p i 0 ne (bit-zero p) �
 pub power-place : (p i : ℕ) → bit (2 ^ p) i ≡ 1 → i ≡ p
 power-place p i o = by-cases (ℕ-discrete i p) (λ e. e) (λ ne. absurd (omega (arith, power-other p i ne)))
 
+-- a power of w bits shifted right
+pub power-shifted : (w e : ℕ) → e ≤ w → 2 ^ w / 2 ^ (w - e) ≡ 2 ^ e
+power-shifted w e h =
+    let s : w ≡ e + (w - e) = omega arith in
+    ap (λ (z : ℕ). z / 2 ^ (w - e)) (ap (λ (i : ℕ). 2 ^ i) s ∙ pow-add 2 e (w - e)) ∙ shl-shr (2 ^ e) (w - e)
+
 pub pow-injective : (a b : ℕ) → 2 ^ a ≡ 2 ^ b → a ≡ b
 pow-injective a b e = power-place b a (ap (λ (z : ℕ). bit z a) (sym e) ∙ power-one a)
 

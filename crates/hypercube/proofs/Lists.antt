@@ -6,7 +6,8 @@ use mathlib.Core.Bool.{Bool, true, false, false≢true, or-true}
 use mathlib.Core.List.{List, [], _∷_, _++_, map}
 use native.Mathlib.Nat.{pow-succ'}
 use native.Mathlib.Omega.{arith}
-use lib.ListN.{length, length-append, getD}
+use lib.ListN.{length, length-append, length-map, getD}
+use lib.Seq.{ext-getD}
 use Rattle.hypercube.specs.Lists.{In, Distinct, over, only, from, passing, some-of}
 use Rattle.hypercube.proofs.Bits.{lt-or}
 use Rattle.hypercube.proofs.Tests.{cases}
@@ -187,6 +188,31 @@ length-each g c i = length-over (λ x. g x ∷ []) c i ∙ sum-const 1 c i ∙ o
 
 pub length-from : (i c : ℕ) → length (from i c) ≡ c
 length-from i c = length-each (λ x. x) c i
+
+-- ---- what f gives for a, a + 1, .., c numbers
+
+pub length-of : {A : Type 0} (f : ℕ → A) (a c : ℕ) → length (map f (from a c)) ≡ c
+length-of f a c = length-map (from a c) f ∙ length-from a c
+
+getD-of : {A : Type 0} (f : ℕ → A) (z : A) (c a k : ℕ) → k < c → getD (map f (from a c)) k z ≡ f (a + k)
+unfolding over
+getD-of f z zero a k h = absurd (omega arith)
+getD-of f z (suc c) a zero h = ap f (omega arith)
+getD-of f z (suc c) a (suc k) h = getD-of f z c (a + 1) k (omega arith) ∙ ap f (omega arith)
+
+pub getD-each : {A : Type 0} (f : ℕ → A) (z : A) (c k : ℕ) → k < c → getD (map f (from 0 c)) k z ≡ f k
+getD-each f z c k h = getD-of f z c 0 k h ∙ ap f (omega arith)
+
+-- a list is the one of its entries
+pub is-each : (f : ℕ → ℕ) (c : ℕ) (l : List ℕ) → length l ≡ c → ((k : ℕ) → k < c → getD l k 0 ≡ f k) → l ≡ map f (from 0 c)
+is-each f c l e h =
+    ext-getD 0 l (map f (from 0 c)) (e ∙ sym (length-of f 0 c)) (λ k q. let b : k < c = omega arith in h k b ∙ sym (getD-each f 0 c k b))
+
+pub map-same : {A : Type 0} (f g : ℕ → A) (c a : ℕ) → ((i : ℕ) → a ≤ i → i < a + c → f i ≡ g i) → map f (from a c) ≡ map g (from a c)
+unfolding over
+map-same f g zero a h = refl
+map-same f g (suc c) a h =
+    ap₂ (λ x xs. x ∷ xs) (h a (omega arith) (omega arith)) (map-same f g c (a + 1) (λ i l u. h i (omega arith) (omega arith)))
 
 -- ---- no repeats
 

@@ -1,13 +1,11 @@
--- Lists that a loop writes from the front, and lists made by counting. Assumes nothing.
+-- Lists that a loop writes from the front. Assumes nothing.
 use Prim.Native.Nat.{ℕ, zero, suc, _+_, _-_, _<_, _≤_}
-use mathlib.Core.Path.{_≡_, refl, ap, ap₂, _∙_}
-use mathlib.Core.List.{List, _∷_, _++_, map}
+use mathlib.Core.Path.{_≡_, refl, ap, _∙_}
+use mathlib.Core.List.{List, _++_}
 use native.Mathlib.Numerals.{add-one}
 use native.Mathlib.Omega.{arith}
-use lib.ListN.{length, getD, take, drop, set, replicate, length-map, length-take, List·getD-append}
+use lib.ListN.{length, getD, take, drop, set, replicate, length-take, List·getD-append}
 use lib.Seq.{take-all, getD-take, paste-suc}
-use Rattle.hypercube.specs.Lists.{over, from}
-use Rattle.hypercube.proofs.Lists.{length-from}
 
 -- ---- the first i entries are s's, the others still d's
 
@@ -27,22 +25,7 @@ module _ {A : Type 0} (d s : List A) (i : ℕ) where
   pub written-all : length s ≤ i → written d s i ≡ s ++ drop i d
   written-all h = ap (λ l. l ++ drop i d) (take-all i s h)
 
--- ---- what f gives for a, a + 1, .., c numbers; one value, m times
-
-pub length-of : {A : Type 0} (f : ℕ → A) (a c : ℕ) → length (map f (from a c)) ≡ c
-length-of f a c = length-map (from a c) f ∙ length-from a c
-
-pub getD-of : {A : Type 0} (f : ℕ → A) (z : A) (c a k : ℕ) → k < c → getD (map f (from a c)) k z ≡ f (a + k)
-unfolding over
-getD-of f z zero a k h = absurd (omega arith)
-getD-of f z (suc c) a zero h = ap f (omega arith)
-getD-of f z (suc c) a (suc k) h = getD-of f z c (a + 1) k (omega arith) ∙ ap f (omega arith)
-
-pub map-same : {A : Type 0} (f g : ℕ → A) (c a : ℕ) → ((i : ℕ) → a ≤ i → i < a + c → f i ≡ g i) → map f (from a c) ≡ map g (from a c)
-unfolding over
-map-same f g zero a h = refl
-map-same f g (suc c) a h =
-    ap₂ (λ x xs. x ∷ xs) (h a (omega arith) (omega arith)) (map-same f g c (a + 1) (λ i l u. h i (omega arith) (omega arith)))
+-- ---- one value, m times
 
 pub drop-replicate : {A : Type 0} (z : A) (m i : ℕ) → drop i (replicate m z) ≡ replicate (m - i) z
 drop-replicate z m zero = let e : m - 0 ≡ m = omega arith in rw e

@@ -1,20 +1,24 @@
 -- Tables of 1024 entries, written from the front and read; the flags among them. Assumes nothing.
 use Prim.Native.Nat.{ℕ, _+_, _-_, _^_, _<_, _≤_}
 use mathlib.Core.Path.{_≡_, refl, sym, ap, _∙_}
+use mathlib.Core.Logic.{⊎-elim}
 use mathlib.Core.Bool.{Bool, true, false, cond, _&&_}
 use mathlib.Core.List.{List, _++_, map}
 use native.Mathlib.Omega.{arith}
 use lib.Dec.{eqb}
 use lib.ListN.{length, getD, set, replicate, length-append, length-replicate, List·getD-append}
 use lib.Pow.{pow-mono}
-use lib.Seq.{getD-append-add}
+use lib.Seq.{getD-append-add, ext-getD}
 use Rattle.hypercube.specs.Lists.{from}
-use Rattle.hypercube.specs.Labels.{node}
+use Rattle.hypercube.specs.Labels.{Permutes, node}
 use Rattle.hypercube.specs.declared.Node.{Node}
+use Rattle.hypercube.proofs.Bits.{lt-or}
+use Rattle.hypercube.proofs.Lists.{length-of, getD-each, map-same}
+use Rattle.hypercube.proofs.Labels.{node-below}
 use Rattle.labels.specs.Directions.{Directions, Own}
-use Rattle.labels.specs.Flags.{flag, table, byNode, numbered, nodeAt, nodes, flagAt, flags}
-use Rattle.labels.proofs.Directions.{node-small, node-own}
-use Rattle.labels.proofs.Filling.{written, written-more, written-at, written-all, length-of, getD-of, map-same, drop-replicate, getD-same}
+use Rattle.labels.specs.Flags.{flag, table, byNode, numbered, nodeAt, nodes, EmptyFrom, movedAt, byLabel, flagAt, flags}
+use Rattle.labels.proofs.Directions.{node-own}
+use Rattle.labels.proofs.Filling.{written, written-more, written-at, written-all, drop-replicate, getD-same}
 
 -- a cube has at most 1024 nodes
 pub cube-le : (n : ℕ) → n ≤ 10 → 2 ^ n ≤ 1024
@@ -35,7 +39,7 @@ module _ {A : Type 0} (c : ℕ) (f : ℕ → A) (z : A) where
   size = length-of f 0 c
 
   entry : (l : ℕ) → l < c → getD first l z ≡ f l
-  entry l h = getD-of f z c 0 l h ∙ ap f (omega arith)
+  entry = getD-each f z c
 
   pub table-at : (l : ℕ) → l < c → getD (table c f z) l z ≡ f l
   table-at l h = List·getD-append first rest z l (omega (arith, size)) ∙ entry l h
@@ -68,6 +72,13 @@ module _ {A : Type 0} (c : ℕ) (f : ℕ → A) (z : A) where
 
 -- ---- the flags
 
+pub empty-by-node : (n : ℕ) (cs hs : List ℕ) → n ≤ 10 → EmptyFrom (byNode (2 ^ n) cs hs) (2 ^ n)
+empty-by-node n cs hs h = record {
+  entries = length-table (2 ^ n) (flag cs hs) 0 (cube-le n h);
+  within = cube-le n h;
+  empty = λ x a b. table-past (2 ^ n) (flag cs hs) 0 x a;
+}
+
 module _ (n : ℕ) (ds cs hs : List ℕ) where
   pub flags-free : (l : ℕ) → l < 2 ^ n → getD (flags n ds cs hs) l 0 ≡ flag cs hs (node ds l)
   flags-free = table-at (2 ^ n) (flagAt ds cs hs) 0
@@ -79,20 +90,23 @@ module _ (n : ℕ) (ds cs hs : List ℕ) where
     pub length-flags : length (flags n ds cs hs) ≡ 1024
     length-flags = length-table (2 ^ n) (flagAt ds cs hs) 0 (cube-le n h)
 
-    -- each direction maps to itself: the flags by label are those by node
-    pub flags-own : Directions ds → Own ds → byNode (2 ^ n) cs hs ≡ flags n ds cs hs
-    flags-own D own =
+    -- the flags by node, moved to their labels
+    pub flags-moved : Permutes n ds → byLabel n ds (byNode (2 ^ n) cs hs) ≡ flags n ds cs hs
+    flags-moved P =
         ap (λ l. l ++ replicate (1024 - 2 ^ n) 0)
-        (map-same (flag cs hs) (flagAt ds cs hs) (2 ^ n) 0
-        (λ l a b. ap (flag cs hs) (sym (node-own D own l (omega (arith, cube-le n h))))))
+        (map-same (movedAt ds (byNode (2 ^ n) cs hs)) (flagAt ds cs hs) (2 ^ n) 0
+        (λ l a b. table-at (2 ^ n) (flag cs hs) 0 (node ds l) (node-below n ds h P l (omega arith))))
 
--- a label's node among the nodes by label, and its flag among the flags by node
+-- each direction maps to itself: the flags stay where they are
+pub own-stay : {n : ℕ} {ds fs : List ℕ} → n ≤ 10 → Directions ds → Own ds → EmptyFrom fs (2 ^ n) → fs ≡ byLabel n ds fs
+own-stay {n} {ds} {fs} h D own E =
+    ext-getD 0 fs (byLabel n ds fs) (E .entries ∙ sym (length-table (2 ^ n) (movedAt ds fs) 0 (cube-le n h)))
+    (λ i b. ⊎-elim (λ l. sym (table-at (2 ^ n) (movedAt ds fs) 0 i l ∙ ap (λ (x : ℕ). getD fs x 0) (node-own D own i (omega (arith, cube-le n h)))))
+    (λ g. E .empty i g (omega (arith, E .entries)) ∙ sym (table-past (2 ^ n) (movedAt ds fs) 0 i g)) (lt-or i (2 ^ n)))
 
+-- a label's node among the nodes by label
 pub node-at : (n : ℕ) (ds : List ℕ) (l : ℕ) → l < 2 ^ n → getD (nodes n ds) l (numbered 0) .0 ≡ node ds l
 node-at n ds l h = ap (λ (y : Node). y .0) (table-at (2 ^ n) (nodeAt ds) (numbered 0) l h)
-
-pub flag-at : {ds : List ℕ} (cs hs : List ℕ) (l : ℕ) → Directions ds → getD (byNode 1024 cs hs) (node ds l) 0 ≡ flagAt ds cs hs l
-flag-at {ds} cs hs l D = table-at 1024 (flag cs hs) 0 (node ds l) (node-small 0 l D)
 
 -- a flag is 1 where the node is good and unheld
 pub flag-test : (cs hs : List ℕ) (x : ℕ) → eqb (flag cs hs x) 1 ≡ eqb (getD cs x 0) 1 && eqb (getD hs x 0) 0

@@ -1,9 +1,10 @@
 -- Which nodes are free, by node and by label. Document 01, "Node and record": "A node is free if it is good and unheld."
-use Prim.Native.Nat.{ℕ, _-_, _^_}
+use Prim.Native.Nat.{ℕ, _-_, _^_, _<_, _≤_}
+use mathlib.Core.Path.{_≡_}
 use mathlib.Core.Bool.{_&&_, cond}
 use mathlib.Core.List.{List, _++_, map}
 use lib.Dec.{eqb}
-use lib.ListN.{getD, replicate}
+use lib.ListN.{length, getD, replicate}
 use Rattle.hypercube.specs.Lists.{from}
 use Rattle.hypercube.specs.Labels.{node}
 use Rattle.hypercube.specs.declared.Node.{Node}
@@ -35,10 +36,23 @@ nodeAt ds l = numbered (node ds l)
 abbrev pub nodes : ℕ → List ℕ → List Node
 nodes n ds = table (2 ^ n) (nodeAt ds) (numbered 0)
 
+-- 1024 entries, 0 from `size` up
+pub record EmptyFrom (xs : List ℕ) (size : ℕ) : Type 0 where
+  pub entries : length xs ≡ 1024
+  pub within : size ≤ 1024
+  pub empty : (x : ℕ) → size ≤ x → x < 1024 → getD xs x 0 ≡ 0
+
+-- flags by node moved to their labels: a label has its node's; from 2^n up 0
+abbrev pub movedAt : List ℕ → List ℕ → ℕ → ℕ
+movedAt ds fs l = getD fs (node ds l) 0
+
+abbrev pub byLabel : ℕ → List ℕ → List ℕ → List ℕ
+byLabel n ds fs = table (2 ^ n) (movedAt ds fs) 0
+
 -- the flag of a label: that of its node
 abbrev pub flagAt : List ℕ → List ℕ → List ℕ → ℕ → ℕ
 flagAt ds cs hs l = flag cs hs (node ds l)
 
--- the flags by label, from 2^n up 0
+-- the flags by label, from 2^n up 0: those by node, moved (the law flags-moved)
 abbrev pub flags : ℕ → List ℕ → List ℕ → List ℕ → List ℕ
 flags n ds cs hs = table (2 ^ n) (flagAt ds cs hs) 0

@@ -6,19 +6,20 @@ ghost use mathlib.Core.Path.{_≡_};
 ghost use mathlib.Core.Bool.{true};
 ghost use mathlib.Core.List.{_++_};
 ghost use Prim.Native.Nat.{_+_, _-_, _*_, _^_, _≤_, _<_};
+ghost use lib.ListN.{length};
 ghost use Rattle.hypercube.specs.Lists.{from};
 ghost use Rattle.hypercube.specs.Bits.{bit};
 ghost use Rattle.hypercube.specs.Labels.{label, node, differing, size, assign};
 ghost use Rattle.labels.specs.Directions.{Directions, Own};
-ghost use Rattle.labels.specs.Flags.{nodes, flagOf, byNode, flags};
+ghost use Rattle.labels.specs.Flags.{nodes, flagOf, EmptyFrom, byLabel};
 ghost use Rattle.labels.specs.Relabelling.{faulty, inMask, relabelling};
 
-// 2 to the e.
+// 2 to the e. As a loop's end, `1 << e` would keep the compiler from counting the turns and so from making vector code.
 fn pow2(e: u16) -> u16
     requires { ⌜ e ≤ 10 ⌝ }
     ensures { λ r. ⌜ r ≡ 2 ^ e ⌝ }
 {
-    1 << e
+    1024 >> (10 - e)
 }
 
 // The bit of x in direction d.
@@ -68,8 +69,8 @@ pub fn node_of(map: &[u8; 10], l: Label) -> Node
 }
 
 // Whether node x is one of those over which D is taken.
-fn is_faulty(conditions: &[u8; 1024], x: Node) -> bool
-    requires { ⌜ x .0 < 1024 ⌝ }
+fn is_faulty(conditions: &[u8], x: Node) -> bool
+    requires { ⌜ x .0 < length (now conditions) ⌝ }
     ensures { λ r. ⌜ r ≡ faulty (now (conditions .entry)) (x .0) ⌝ }
 {
     let i = x.0 as usize;
@@ -77,8 +78,8 @@ fn is_faulty(conditions: &[u8; 1024], x: Node) -> bool
 }
 
 // D as a mask: of the ten bits, those that are 1 in one faulty node and 0 in another.
-fn differing_bits(n: u16, conditions: &[u8; 1024]) -> u16
-    requires { ⌜ n ≤ 10 ⌝ }
+fn differing_bits(n: u16, conditions: &[u8]) -> u16
+    requires { ⌜ (n ≤ 10) × (length (now conditions) ≡ 1024) ⌝ }
     ensures { λ r. ⌜ inMask n r ≡ differing n (faulty (now (conditions .entry))) ⌝ }
 {
     let count = pow2(n);
@@ -139,8 +140,8 @@ pub struct Relabelled {
 }
 
 // The relabelling of a cube of dimension n with these conditions: D, its size, and the map made of them.
-pub fn relabel(n: u16, conditions: &[u8; 1024]) -> Relabelled
-    requires { ⌜ n ≤ 10 ⌝ }
+pub fn relabel(n: u16, conditions: &[u8]) -> Relabelled
+    requires { ⌜ (n ≤ 10) × (length (now conditions) ≡ 1024) ⌝ }
     ensures { λ r. ⌜ r ≡ relabelling n (now (conditions .entry)) ⌝ }
 {
     let mask = differing_bits(n, conditions);
@@ -173,28 +174,10 @@ fn nodes_by_label(n: u16, map: &[u8; 10]) -> [Node; 1024]
 }
 
 // 1 where a node of this condition and this holder is free, else 0: "A node is free if it is good and unheld."
-fn flag_of(condition: u8, holder: u16) -> u8
+pub fn flag_of(condition: u8, holder: u16) -> u8
     ensures { λ r. ⌜ r ≡ flagOf condition holder ⌝ }
 {
     if condition == 1 && holder == 0 { 1 } else { 0 }
-}
-
-// The flags of the nodes below `size`, by node. Condition and holder are read at every node, so the loop compiles to vector code.
-fn flags_by_node<'a>(
-    size: usize,
-    conditions: &'a [u8; 1024],
-    holders: &'a [u16; 1024],
-) -> [u8; 1024]
-    requires { ⌜ size ≤ 1024 ⌝ }
-    ensures { λ r. ⌜ r ≡ byNode size (now (conditions .entry)) (now (holders .entry)) ⌝ }
-{
-    let mut flags = [0; 1024];
-    let mut x: usize = 0;
-    while x < size {
-        flags[x] = flag_of(conditions[x], holders[x]);
-        x += 1;
-    }
-    flags
 }
 
 // Whether each direction maps to itself: each label is then its node's number.
@@ -211,28 +194,23 @@ fn is_identity(map: &[u8; 10]) -> bool
     true
 }
 
-// The flags by label: all that a walk sees of conditions, holders and map.
-pub fn flags_by_label<'a>(
-    n: u16,
-    map: &'a [u8; 10],
-    conditions: &'a [u8; 1024],
-    holders: &'a [u16; 1024],
-) -> [u8; 1024]
+// The flags by label, made of those by node: all that a walk sees of conditions, holders and map.
+pub fn flags_by_label<'a>(n: u16, map: &'a [u8; 10], flags: &'a [u8; 1024]) -> [u8; 1024]
     requires { ⌜ (n ≤ 10) × Directions (now map) ⌝ }
-    ensures { λ r. ⌜ r ≡ flags n (now (map .entry)) (now (conditions .entry)) (now (holders .entry)) ⌝ }
+    requires { ⌜ EmptyFrom (now flags) (2 ^ n) ⌝ }
+    ensures { λ r. ⌜ r ≡ byLabel n (now (map .entry)) (now (flags .entry)) ⌝ }
 {
-    let size = pow2(n) as usize;
     if is_identity(map) {
-        return flags_by_node(size, conditions, holders);
+        return *flags;
     }
     let nodes = nodes_by_label(n, map);
-    let by_node = flags_by_node(1024, conditions, holders);
-    let mut flags = [0; 1024];
+    let size = pow2(n) as usize;
+    let mut by_label = [0; 1024];
     let mut l: usize = 0;
     while l < size {
         let x = nodes[l].0 as usize;
-        flags[l] = by_node[x];
+        by_label[l] = flags[x];
         l += 1;
     }
-    flags
+    by_label
 }

@@ -7,10 +7,11 @@ use borrow.Author.Count.{below-more}
 use lib.ListN.{length, getD, set, length-set}
 use lib.Seq.{ext-getD, getD-set-same, getD-set-other}
 use Rattle.hypercube.specs.Lists.{from}
-use Rattle.allocator.specs.declared.State.{State}
+use Rattle.hypercube.proofs.Lists.{is-each}
+use Rattle.state.specs.declared.State.{State}
 use Rattle.record.specs.Layout.{encode}
 use Rattle.record.specs.Filled.{Filled, Stored}
-use Rattle.record.proofs.Round.{Sized, length-encode, is-each}
+use Rattle.record.proofs.Round.{Sized, length-encode}
 
 pub filled-none : (f : ℕ → ℕ) (n : ℕ) (l : List ℕ) → length l ≡ n → Filled f n 0 l
 filled-none f n l e = record { long = e; front = λ k h. absurd (omega arith) }

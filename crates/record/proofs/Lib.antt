@@ -5,3 +5,5 @@ pub mod Refusal
 pub mod Maximum
 pub mod Parts
 pub mod InPlace
+pub mod Among
+pub mod Sweeps

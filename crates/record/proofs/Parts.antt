@@ -1,17 +1,17 @@
--- The test of the nodes by the highest bytes of three parts of a record. Assumes nothing.
+-- Tests of the nodes by the highest bytes of parts of a record. Assumes nothing.
 use Prim.Native.Nat.{ℕ, _+_, _*_, _-_, _<_, _≤_}
-use mathlib.Core.Logic.{_↔_}
-use mathlib.Core.Path.{_≡_, refl}
-use mathlib.Core.Bool.{Bool, true, false, _&&_}
+use mathlib.Core.Path.{_≡_, sym, ap, _∙_}
+use mathlib.Core.Bool.{Bool, false, not, _&&_}
 use mathlib.Core.List.{List}
 use native.Mathlib.Omega.{arith}
 use borrow.Author.Tests.{eq-eqb, ne-eqb, le-leb, lt-leb}
 use lib.Dec.{eqb, leb}
 use lib.ListN.{length, getD}
-use Rattle.hypercube.proofs.Tests.{Means, means-eq, means-le, means-and, same-test}
+use Rattle.hypercube.proofs.Tests.{Means, means-iff, means-eq, means-le, means-and, same-test}
 use Rattle.history.specs.Calls.{word}
-use Rattle.allocator.specs.Valid.{nodesRight}
-use Rattle.allocator.proofs.Valid.{means-same, means-nodes}
+use Rattle.state.specs.Valid.{anyBelow, nodesRight}
+use Rattle.state.proofs.Below.{any-not}
+use Rattle.state.proofs.Valid.{means-each, means-nodes}
 use Rattle.record.specs.Highest.{highestOf}
 use Rattle.record.specs.Layout.{decode}
 use Rattle.record.proofs.Round.{decode-holder, decode-condition, each-holder}
@@ -32,10 +32,10 @@ module _ (r : List ℕ) (N : ℕ) (long : length r ≡ 3088) (few : N ≤ 1024) 
   means-none : (a e : ℕ) → e ≤ 3088 → Means (eqb (highestOf (part r a e)) 0) ((i : ℕ) → a ≤ i → i < e → getD r i 0 ≤ 0)
   means-none a e h =
       let w = part-within r a e (omega arith) 0 in
-      means-same (means-eq (highestOf (part r a e)) 0) (λ z. w .0 (omega arith), λ f. omega (arith, w .1 f))
+      means-iff (means-eq (highestOf (part r a e)) 0) (λ z. w .0 (omega arith), λ f. omega (arith, w .1 f))
 
   means-below : Means (leb conditions-below 2) ((i : ℕ) → 2064 ≤ i → i < 2064 + N → getD r i 0 ≤ 2)
-  means-below = means-same (means-le conditions-below 2) (part-within r 2064 (2064 + N) (omega arith) 2)
+  means-below = means-iff (means-le conditions-below 2) (part-within r 2064 (2064 + N) (omega arith) 2)
 
   -- a byte among the conditions, by its node
   at-condition : (P : ℕ → Type 0) (i : ℕ) → i < 3088 → 2064 ≤ i → P (getD (decode r .conditions) (i - 2064) 0) → P (getD r i 0)
@@ -43,31 +43,47 @@ module _ (r : List ℕ) (N : ℕ) (long : length r ≡ 3088) (few : N ≤ 1024) 
       let e : 2064 + (i - 2064) ≡ i = omega arith in
       rw e at (rw (decode-condition r (i - 2064) (omega arith)) at p)
 
-  pub three-parts : (leb conditions-below 2 && (eqb conditions-beyond 0 && eqb holders-beyond 0)) ≡ nodesRight (decode r .holders) (decode r .conditions) N
+  -- a to e: nodes; the highest byte of their holders is 0 where none of them is held
+  means-unheld : (a e : ℕ) → e ≤ 1024
+      → Means (eqb (highestOf (part r (16 + 2 * a) (16 + 2 * e))) 0) ((x : ℕ) → a ≤ x → x < e → getD (decode r .holders) x 0 ≡ 0)
   unfolding word
+  means-unheld a e h =
+      means-iff (means-none (16 + 2 * a) (16 + 2 * e) (omega arith)) (
+        λ p x g l.
+            omega (
+              arith,
+              decode-holder r x (omega arith),
+              p (16 + 2 * x) (omega arith) (omega arith),
+              p (16 + 2 * x + 1) (omega arith) (omega arith),
+            ),
+        λ q i g l. each-holder (λ k. getD r k 0 ≤ 0) i (omega arith) (omega arith) (λ x b u v.
+            let z = decode-holder r x b in
+            let e = q x (omega arith) (omega arith) in
+            (omega arith, omega arith)),
+      )
+
+  -- whether any of the N nodes is held, by the highest byte of their holders
+  pub any-held : {m : ℕ} → m ≡ highestOf (part r 16 (16 + 2 * N)) → not (eqb m 0) ≡ anyBelow (λ x. not (eqb (getD (decode r .holders) x 0) 0)) N
+  any-held e =
+      let test : ℕ → Bool = λ x. eqb (getD (decode r .holders) x 0) 0 in
+      ap (λ (k : ℕ). not (eqb k 0)) e
+      ∙ ap not (same-test (means-unheld 0 N few) (means-each test (λ x. getD (decode r .holders) x 0 ≡ 0) N (λ x l. means-eq (getD (decode r .holders) x 0) 0))
+      (λ h x l. h x (omega arith) l, λ h x g l. h x l))
+      ∙ sym (any-not test N)
+
+  pub three-parts : (leb conditions-below 2 && (eqb conditions-beyond 0 && eqb holders-beyond 0)) ≡ nodesRight (decode r .holders) (decode r .conditions) N
   three-parts =
-      same-test (means-and means-below (means-and (means-none (2064 + N) 3088 (omega arith)) (means-none (16 + 2 * N) 2064 (omega arith))))
+      same-test (means-and means-below (means-and (means-none (2064 + N) 3088 (omega arith)) (means-unheld N 1024 (omega arith))))
       (means-nodes (decode r .holders) (decode r .conditions) N) (
         λ p x l. (
           λ b. rw (decode-condition r x l) (p .0 (2064 + x) (omega arith) (omega arith)),
-          λ g. (
-            omega (
-              arith,
-              decode-holder r x l,
-              p .1 .1 (16 + 2 * x) (omega arith) (omega arith),
-              p .1 .1 (16 + 2 * x + 1) (omega arith) (omega arith),
-            ),
-            omega (arith, decode-condition r x l, p .1 .0 (2064 + x) (omega arith) (omega arith)),
-          ),
+          λ g. (p .1 .1 x g l, omega (arith, decode-condition r x l, p .1 .0 (2064 + x) (omega arith) (omega arith))),
         ),
         λ q. (
           λ i a b. at-condition (λ y. y ≤ 2) i (omega arith) a (q (i - 2064) (omega arith) .0 (omega arith)),
           (
             λ i a b. omega (arith, at-condition (λ y. y ≡ 0) i (omega arith) (omega arith) (q (i - 2064) (omega arith) .1 (omega arith) .1)),
-            λ i a b. each-holder (λ k. getD r k 0 ≤ 0) i (omega arith) b (λ x l g.
-                let z = decode-holder r x l in
-                let e = q x l .1 (omega arith) .0 in
-                (omega arith, omega arith)),
+            λ x g l. q x l .1 g .0,
           ),
         ),
       )

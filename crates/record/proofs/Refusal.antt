@@ -7,7 +7,7 @@ use borrow.Author.Tests.{eq-eqb, ne-eqb}
 use lib.Dec.{eqb}
 use lib.ListN.{length, getD}
 use Rattle.history.specs.Calls.{word}
-use Rattle.allocator.specs.Valid.{valid}
+use Rattle.state.specs.Valid.{valid}
 use Rattle.record.specs.Layout.{decode, headRight, validRecord}
 
 module _ (r : List ℕ) where

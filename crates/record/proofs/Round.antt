@@ -3,39 +3,21 @@
 use Prim.Native.Nat.{ℕ, zero, suc, _+_, _*_, _%_, _/_, _-_, _<_, _≤_}
 use mathlib.Core.Path.{_≡_, refl, sym, ap, subst, _∙_}
 use mathlib.Core.Logic.{⊎-elim}
-use mathlib.Core.Bool.{Bool, true}
+use mathlib.Core.Bool.{true}
 use mathlib.Core.List.{List, [], _∷_, _++_, map}
 use native.Mathlib.Omega.{arith}
 use borrow.Author.Tests.{eq-eqb}
-use lib.ListN.{length, getD, length-append, length-map, List·getD-append}
+use lib.ListN.{length, getD, length-append, List·getD-append}
 use lib.Seq.{ext-getD, getD-append-add}
-use Rattle.hypercube.specs.Lists.{over, from}
+use Rattle.hypercube.specs.Lists.{from}
 use Rattle.hypercube.proofs.Bits.{lt-or}
-use Rattle.hypercube.proofs.Lists.{length-from}
-use Rattle.hypercube.proofs.Tests.{Means, means-eq, means-and}
+use Rattle.hypercube.proofs.Lists.{length-of, getD-each, is-each}
+use Rattle.hypercube.proofs.Tests.{means-eq, means-and}
 use Rattle.history.specs.Calls.{word}
-use Rattle.allocator.specs.declared.State.{State}
-use Rattle.allocator.specs.Valid.{valid}
-use Rattle.record.specs.Layout.{words, encode, decode, headRight, validRecord}
-
--- ---- the list f 0, f 1, .., c of them
-
-pub length-each : (f : ℕ → ℕ) (c : ℕ) → length (map f (from 0 c)) ≡ c
-length-each f c = length-map (from 0 c) f ∙ length-from 0 c
-
-each-from : (f : ℕ → ℕ) (a c i : ℕ) → i < c → getD (map f (from a c)) i 0 ≡ f (a + i)
-unfolding over
-each-from f a zero i l = absurd (omega arith)
-each-from f a (suc c) zero l = ap f (omega arith)
-each-from f a (suc c) (suc i) l = each-from f (a + 1) c i (omega arith) ∙ ap f (omega arith)
-
-pub getD-each : (f : ℕ → ℕ) (c i : ℕ) → i < c → getD (map f (from 0 c)) i 0 ≡ f i
-getD-each f c i l = each-from f 0 c i l ∙ ap f (omega arith)
-
--- a list is the one of its entries
-pub is-each : (f : ℕ → ℕ) (c : ℕ) (l : List ℕ) → length l ≡ c → ((i : ℕ) → i < c → getD l i 0 ≡ f i) → l ≡ map f (from 0 c)
-is-each f c l e h =
-    ext-getD 0 l (map f (from 0 c)) (e ∙ sym (length-each f c)) (λ i q. let b : i < c = omega arith in h i b ∙ sym (getD-each f c i b))
+use Rattle.state.specs.declared.State.{State}
+use Rattle.state.specs.Valid.{valid}
+use Rattle.state.proofs.Valid.{means-true}
+use Rattle.record.specs.Layout.{words, encode, decode, Encoded, headRight, validRecord}
 
 -- ---- two bytes of each number
 
@@ -148,10 +130,13 @@ module _ (s : State) (z : Sized s) where
 pub sized-decode : (r : List ℕ) → Sized (decode r)
 unfolding decode
 sized-decode r = record {
-  directions = length-each (λ i. getD r (5 + i) 0) 10;
-  holders = length-each (λ x. word r (16 + 2 * x)) 1024;
-  conditions = length-each (λ x. getD r (2064 + x) 0) 1024;
+  directions = length-of (λ i. getD r (5 + i) 0) 0 10;
+  holders = length-of (λ x. word r (16 + 2 * x)) 0 1024;
+  conditions = length-of (λ x. getD r (2064 + x) 0) 0 1024;
 }
+
+pub encoded-long : {r : List ℕ} → Encoded r → length r ≡ 3088
+encoded-long {r} e = ap length (sym e) ∙ length-encode (decode r) (sized-decode r)
 
 -- the state made of what was read, part by part
 pub decode-parts : (r : List ℕ) (m : ℕ) (ds hs cs : List ℕ) → m ≡ decode r .n → ds ≡ map (λ i. getD r (5 + i) 0) (from 0 10)
@@ -162,15 +147,15 @@ decode-parts r m ds hs cs e d h c = rw (e, d, h, c)
 
 pub decode-map : (r : List ℕ) (i : ℕ) → i < 10 → getD (decode r .map) i 0 ≡ getD r (5 + i) 0
 unfolding decode
-decode-map r i h = getD-each (λ i. getD r (5 + i) 0) 10 i h
+decode-map r i h = getD-each (λ i. getD r (5 + i) 0) 0 10 i h
 
 pub decode-holder : (r : List ℕ) (x : ℕ) → x < 1024 → getD (decode r .holders) x 0 ≡ word r (16 + 2 * x)
 unfolding decode
-decode-holder r x h = getD-each (λ x. word r (16 + 2 * x)) 1024 x h
+decode-holder r x h = getD-each (λ x. word r (16 + 2 * x)) 0 1024 x h
 
 pub decode-condition : (r : List ℕ) (x : ℕ) → x < 1024 → getD (decode r .conditions) x 0 ≡ getD r (2064 + x) 0
 unfolding decode
-decode-condition r x h = getD-each (λ x. getD r (2064 + x) 0) 1024 x h
+decode-condition r x h = getD-each (λ x. getD r (2064 + x) 0) 0 1024 x h
 
 -- what a right head says
 pub record Head (r : List ℕ) : Type 0 where
@@ -193,11 +178,8 @@ pub record Right (r : List ℕ) : Type 0 where
 pub record-says : (r : List ℕ) → validRecord r ≡ true → Right r
 unfolding validRecord
 record-says r e =
-    let h = means-and (means-eq (length r) 3088) (means-and (means-of (headRight r)) (means-of (valid (decode r)))) .holds e in
+    let h = means-and (means-eq (length r) 3088) (means-and means-true means-true) .holds e in
     record { long = h .0; head = h .1 .0; state = h .1 .1 }
-  where
-    means-of : (b : Bool) → Means b (b ≡ true)
-    means-of b = record { holds = λ e. e; shows = λ e. e }
 
 -- the bytes of a word, low and high
 word-low : (r : List ℕ) (i : ℕ) → getD r i 0 < 256 → word r i % 256 ≡ getD r i 0
@@ -209,9 +191,9 @@ unfolding word
 word-high r i b = omega arith
 
 -- a byte among the holders is the low or the high one of a holder
-pub each-holder : (P : ℕ → Type 0) (i : ℕ) → 16 ≤ i → i < 2064 → ((x : ℕ) → x < 1024 → i ≤ 16 + 2 * x + 1 → P (16 + 2 * x) × P (16 + 2 * x + 1)) → P i
+pub each-holder : (P : ℕ → Type 0) (i : ℕ) → 16 ≤ i → i < 2064 → ((x : ℕ) → x < 1024 → 16 + 2 * x ≤ i → i ≤ 16 + 2 * x + 1 → P (16 + 2 * x) × P (16 + 2 * x + 1)) → P i
 each-holder P i a b h =
-    let both = h ((i - 16) / 2) (omega arith) (omega arith) in
+    let both = h ((i - 16) / 2) (omega arith) (omega arith) (omega arith) in
     ⊎-elim (λ (e : (i - 16) % 2 < 1). subst P (omega arith) (both .0)) (λ (e : 1 ≤ (i - 16) % 2). subst P (omega arith) (both .1)) (lt-or ((i - 16) % 2) 1)
 
 -- 3088 bytes with a right head
@@ -255,14 +237,14 @@ module _ (r : List ℕ) (long : length r ≡ 3088) (bytes : (i : ℕ) → getD r
       ⊎-elim (same-first i)
       (λ (a : 5 ≤ i). ⊎-elim (λ (b : i < 15). subst Same (omega arith) (same-map (i - 5) (omega arith)))
       (λ (b : 15 ≤ i). ⊎-elim (λ (d : i < 16). subst Same (omega arith) same-zero)
-      (λ (d : 16 ≤ i). ⊎-elim (λ (e : i < 2064). each-holder Same i d e (λ x l _. (same-low x l, same-high x l)))
+      (λ (d : 16 ≤ i). ⊎-elim (λ (e : i < 2064). each-holder Same i d e (λ x l _ _. (same-low x l, same-high x l)))
       (λ (e : 2064 ≤ i). subst Same (omega arith) (same-condition (i - 2064) (omega arith)))
       (lt-or i 2064))
       (lt-or i 16))
       (lt-or i 15))
       (lt-or i 5)
 
-  pub encode-decode : encode (decode r) ≡ r
+  pub encode-decode : Encoded r
   encode-decode =
       let e = length-encode (decode r) (sized-decode r) in
       ext-getD 0 (encode (decode r)) r (e ∙ sym long) (λ i h. same i (omega arith))

@@ -1,14 +1,15 @@
 -- The record's bytes. Document 01, "Node and record": "The record is 3088 bytes, all fields little-endian: length 3088 (2 bytes), kind 0x0001 (2), n (1),
 -- the map (10 [..]), a zero byte, 1024 holders (2 each), 1024 conditions (1 each)."
 use Prim.Native.Nat.{ℕ, zero, suc, _+_, _*_, _%_, _/_}
+use mathlib.Core.Path.{_≡_}
 use mathlib.Core.Bool.{Bool, _&&_}
 use mathlib.Core.List.{List, [], _∷_, _++_, map}
 use lib.Dec.{eqb}
 use lib.ListN.{length, getD}
 use Rattle.hypercube.specs.Lists.{from}
 use Rattle.history.specs.Calls.{word}
-use Rattle.allocator.specs.declared.State.{State}
-use Rattle.allocator.specs.Valid.{valid}
+use Rattle.state.specs.declared.State.{State}
+use Rattle.state.specs.Valid.{valid}
 
 -- two bytes of each number, little-endian
 unfoldable pub words : List ℕ → List ℕ
@@ -27,6 +28,10 @@ decode r = record {
   holders = map (λ x. word r (16 + 2 * x)) (from 0 1024);
   conditions = map (λ x. getD r (2064 + x) 0) (from 0 1024);
 }
+
+-- r is the record of the state that it says
+abbrev pub Encoded : List ℕ → Type 0
+Encoded r = encode (decode r) ≡ r
 
 -- refusal 1's whole test
 unfoldable pub headRight : List ℕ → Bool

@@ -2,3 +2,4 @@
 pub mod Layout
 pub mod Filled
 pub mod Highest
+pub mod Holders

@@ -12,7 +12,7 @@ use Rattle.hypercube.proofs.Decisions.{dec-or, dec-some, dec-every}
 use Rattle.history.specs.Calls.{request, word, kindOf, lengthField, kind, nodeField, job, dimension, strategy}
 use Rattle.history.specs.Causes.{causes}
 use Rattle.history.specs.Verdicts.{granted, refused, firstMet, decided, cause, accept, tell, step, verdict}
-use Rattle.allocator.specs.declared.Call.the-variants.{Good, Request}
+use Rattle.state.specs.declared.Call.the-variants.{Good, Request}
 use Rattle.frames.specs.declared.Parsed.the-variants.{Known}
 use Rattle.frames.specs.Parse.{sized, byKind, parsed}
 use Rattle.cube.specs.Run.{Exchange, Exchanges, begin, _next_, fed, historyAt}

@@ -6,8 +6,8 @@ use mathlib.Core.List.{List}
 use borrow.Author.Tests.{eq-eqb}
 use lib.Dec.{ltb}
 use lib.ListN.{length}
-use Rattle.allocator.specs.declared.Call.the-variants.{Good, Request}
-use Rattle.allocator.specs.Acts.{numberOf, requestStep}
+use Rattle.state.specs.declared.Call.the-variants.{Good, Request}
+use Rattle.state.specs.Acts.{numberOf, requestStep}
 use Rattle.record.specs.Layout.{encode, decode, validRecord}
 use Rattle.frames.specs.declared.Parsed.the-variants.{Known}
 use Rattle.frames.specs.Parse.{parsed}

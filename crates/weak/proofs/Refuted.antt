@@ -13,29 +13,30 @@ use lib.Pow.{pow-pos}
 use Rattle.hypercube.specs.Bits.{width}
 use Rattle.hypercube.specs.Lists.{over, among}
 use Rattle.hypercube.specs.Subcubes.{vertices}
+use Rattle.hypercube.proofs.Lists.{length-of, getD-each}
 use Rattle.history.specs.Calls.{Call, word, strategy, dimension}
 use Rattle.history.specs.Account.{History}
 use Rattle.history.specs.Causes.{Row, NoneMet, earlier, last, causes}
 use Rattle.history.specs.Verdicts.{granted}
 use Rattle.history.specs.Held.{without}
 use Rattle.history.proofs.Passed.{passed}
-use Rattle.allocator.specs.declared.State.{State}
-use Rattle.allocator.specs.declared.Call.the-variants.{Request}
-use Rattle.allocator.specs.declared.Reply.{Reply}
-use Rattle.allocator.specs.declared.Reply.the-variants.{Granted, Refused, Done}
-use Rattle.allocator.specs.States.{withHolders, given}
-use Rattle.allocator.specs.Valid.{anyBelow, Valid}
-use Rattle.allocator.specs.Acts.{numberOf, anyHeld, requestStep}
-use Rattle.allocator.proofs.Valid.{means-valid}
+use Rattle.state.specs.declared.State.{State}
+use Rattle.state.specs.declared.Call.the-variants.{Request}
+use Rattle.state.specs.declared.Reply.{Reply}
+use Rattle.state.specs.declared.Reply.the-variants.{Granted, Refused, Done}
+use Rattle.state.specs.States.{withHolders, given}
+use Rattle.state.specs.Valid.{anyBelow, Valid}
+use Rattle.state.specs.Acts.{numberOf, anyHeld, requestStep}
+use Rattle.state.proofs.Valid.{means-valid}
 use Rattle.record.specs.Layout.{words, encode, decode, validRecord}
 use Rattle.frames.specs.Answer.{frameOf, written}
-use Rattle.record.proofs.Round.{Sized, length-each, getD-each, decode-holder, sized-decode, encode-holder, valid-encode}
+use Rattle.record.proofs.Round.{Sized, decode-holder, sized-decode, encode-holder, valid-encode}
 use Rattle.frames.specs.declared.Parsed.the-variants.{Known}
 use Rattle.frames.specs.Parse.{parsed}
 use Rattle.cube.specs.Called.{delivered}
 use Rattle.cube.specs.Run.{Exchanges, begin, _next_, fed, returns, replies, heard, recordAfter, number, reply, historyAt}
 use Rattle.cube.specs.Demand3.{Demand3}
-use Rattle.cube.proofs.Ways.{state-valid}
+use Rattle.allocator.proofs.Ways.{state-valid}
 use Rattle.cube.proofs.Heard.{heard-back}
 use Rattle.cube.proofs.Theorem.{demand3}
 use Rattle.weak.specs.Programs.{Requests, by, answers14, unstarted, lowest, unrecorded, firstJob, plausible, anyTried}
@@ -65,14 +66,14 @@ stays-valid s z v j =
       permutes = v .permutes;
       conditions = v .conditions;
       no-conditions = v .no-conditions;
-      no-holders = λ x h l. getD-each (λ x. cond (among x (vertices width 0 0)) j (getD (s .holders) x 0)) 1024 x l ∙ other x h ∙ v .no-holders x h l;
+      no-holders = λ x h l. getD-each (λ x. cond (among x (vertices width 0 0)) j (getD (s .holders) x 0)) 0 1024 x l ∙ other x h ∙ v .no-holders x h l;
     }
   where
     t : State
     t = withHolders s (given (s .holders) (vertices width 0 0) j)
 
     sized : Sized t
-    sized = record { directions = z .directions; holders = length-each _ 1024; conditions = z .conditions }
+    sized = record { directions = z .directions; holders = length-of _ 0 1024; conditions = z .conditions }
 
     other : (x : ℕ) → 2 ^ s .n ≤ x → cond (among x (vertices width 0 0)) j (getD (s .holders) x 0) ≡ getD (s .holders) x 0
     other x h = rw (elsewhere x (lt-of-lt-of-le (pow-pos (s .n)) h))

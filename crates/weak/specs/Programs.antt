@@ -7,14 +7,14 @@ use lib.ListN.{length}
 use Rattle.hypercube.specs.Bits.{width}
 use Rattle.hypercube.specs.Subcubes.{vertices}
 use Rattle.hypercube.specs.Families.{family}
-use Rattle.allocator.specs.declared.State.{State}
-use Rattle.allocator.specs.declared.Call.{Call}
-use Rattle.allocator.specs.declared.Call.the-variants.{Good, Fault, Repaired, Relabel, Request, Release}
-use Rattle.allocator.specs.declared.Reply.{Reply}
-use Rattle.allocator.specs.declared.Reply.the-variants.{Granted, Refused, Done}
-use Rattle.allocator.specs.declared.Step.{Step}
-use Rattle.allocator.specs.States.{withHolders, given}
-use Rattle.allocator.specs.Acts.{numberOf, step, refuse, anyHeld, requestStep, acted}
+use Rattle.state.specs.declared.State.{State}
+use Rattle.state.specs.declared.Call.{Call}
+use Rattle.state.specs.declared.Call.the-variants.{Good, Fault, Repaired, Relabel, Request, Release}
+use Rattle.state.specs.declared.Reply.{Reply}
+use Rattle.state.specs.declared.Reply.the-variants.{Granted, Refused, Done}
+use Rattle.state.specs.declared.Step.{Step}
+use Rattle.state.specs.States.{withHolders, given}
+use Rattle.state.specs.Acts.{numberOf, step, refuse, anyHeld, requestStep, acted}
 use Rattle.record.specs.Layout.{encode, decode, validRecord}
 use Rattle.frames.specs.declared.Parsed.{Parsed}
 use Rattle.frames.specs.declared.Parsed.the-variants.{Known, Bad}

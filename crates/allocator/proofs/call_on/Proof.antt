@@ -2,25 +2,70 @@
 use borrow.Author.Needs.{needs}
 use mathlib.Core.Path.{sym, _∙_}
 use borrow.Author.Tests.{not-true, not-false}
-use Rattle.allocator.proofs.Valid.{means-valid}
-use Rattle.allocator.proofs.Steps.{called-1, called-on}
+use Rattle.record.proofs.Round.{Sized}
+use Rattle.allocator.proofs.Keeps.{by-record-1, by-record}
 use Rattle.allocator.proofs.call_on.Statement.{statement}
 use Rattle.allocator.proofs.call_on.Tie as tie
 
-valid-requires : tie.Need-valid-requires
-valid-requires c κs = search needs
+-- the state's arrays have their lengths
+sized : (c : tie.Start) → Sized (c .args .s)
+sized c = record { directions = search needs; holders = search needs; conditions = search needs }
+
+slice-aggregate-store : tie.Need-slice-aggregate-store
+slice-aggregate-store c = search needs
+
+store-requires : tie.Need-store-requires
+store-requires c κs = search needs
+
+slice-aggregate-is-valid : tie.Need-slice-aggregate-is-valid
+slice-aggregate-is-valid c = search needs
+
+is-valid-requires : tie.Need-is-valid-requires
+is-valid-requires c κs = search needs
 
 refused-requires : tie.Need-refused-requires
 refused-requires c κs = search needs
 
 returns : tie.Need-returns
-returns c = c .refused .ensures ∙ called-1 _ (c .before .before .before .args .c) (sym (c .before .before .valid .ensures) ∙ not-true _ (c .before .if1 .taken))
+returns c =
+    let tested = c .before .before in
+    let stored = tested .before .before .before in
+    let start = stored .before .before in
+    by-record-1 _ (sized start) (start .args .c) (stored .store .ensures) (sym (tested .is-valid .ensures) ∙ not-true _ (c .before .if1 .taken)) (c .refused .ensures)
 
-act-requires : tie.Need-act-requires
-act-requires c κs = means-valid (c .before .before .args .s) (search needs) .holds (sym (c .before .valid .ensures) ∙ not-false _ (c .if1 .left))
+slice-aggregate-call-record : tie.Need-slice-aggregate-call-record
+slice-aggregate-call-record c = search needs
+
+call-record-requires : tie.Need-call-record-requires
+call-record-requires c κs = sym (c .before .before .is-valid .ensures) ∙ not-false _ (c .before .if1 .left)
+
+slice-aggregate-load : tie.Need-slice-aggregate-load
+slice-aggregate-load c = search needs
+
+load-requires : tie.Need-load-requires
+load-requires c κs = search needs
 
 returns-2 : tie.Need-returns-2
-returns-2 c = c .act .ensures ∙ called-on _ (c .before .before .before .args .c) (sym (c .before .before .valid .ensures) ∙ not-false _ (c .before .if1 .left))
+returns-2 c =
+    let did = c .before .before .before in
+    let test = did .before .before in
+    let stored = test .before .before .before .before in
+    let start = stored .before .before in
+    by-record _ (sized start) (start .args .c) (stored .store .ensures) (sym (test .before .is-valid .ensures) ∙ not-false _ (test .if1 .left))
+    (did .call-record .ensures) (c .load .ensures)
 
 pub call-on-spec : {M : Type 1} → statement M
-call-on-spec = tie.close (tie.spec valid-requires refused-requires returns act-requires returns-2)
+call-on-spec =
+    tie.close
+    (tie.spec
+    slice-aggregate-store
+    store-requires
+    slice-aggregate-is-valid
+    is-valid-requires
+    refused-requires
+    returns
+    slice-aggregate-call-record
+    call-record-requires
+    slice-aggregate-load
+    load-requires
+    returns-2)

@@ -8,8 +8,8 @@ use Rattle.cube.proofs.carry_frame.Tie as tie
 enum-known-p : tie.Need-enum-known-p
 enum-known-p c = search needs
 
-carry-out-requires : tie.Need-carry-out-requires
-carry-out-requires c κs = search needs
+call-record-requires : tie.Need-call-record-requires
+call-record-requires c κs = search needs
 
 enum-known-p-2 : tie.Need-enum-known-p-2
 enum-known-p-2 c = search needs
@@ -22,7 +22,7 @@ same-length c = search needs
 
 returns : tie.Need-returns
 returns c =
-    by-frame _ (c .before .before .before .before .before .p .given .1) (c .before .before .carry-out .ensures)
+    by-frame _ (c .before .before .before .before .before .p .given .1) (c .before .before .call-record .ensures)
 
 returns-2 : tie.Need-returns-2
 returns-2 c =
@@ -35,7 +35,7 @@ carry-frame-spec =
     tie.close
     (tie.spec
     enum-known-p
-    carry-out-requires
+    call-record-requires
     enum-known-p-2
     refused-requires
     same-length

@@ -1,19 +1,18 @@
--- `labels::pow2` meets its contract: a shift by less than the width loses nothing. Assumes nothing.
-use Prim.Native.Nat.{_^_}
-use mathlib.Core.Path.{_∙_}
-use native.Mathlib.Nat.{one-mul}
+-- `labels::pow2` meets its contract. Assumes nothing.
 use native.Mathlib.Omega.{arith}
 use borrow.Author.Needs.{needs}
-use lib.Dec.{lit<}
-use lib.Pow.{shl-exact}
+use Rattle.hypercube.proofs.Bits.{power-shifted}
 use Rattle.labels.proofs.pow2.Statement.{statement}
 use Rattle.labels.proofs.pow2.Tie as tie
 
-shl-result : tie.Need-shl-result
-shl-result c = search needs
+sub-result : tie.Need-sub-result
+sub-result c = search needs
+
+shr-result : tie.Need-shr-result
+shr-result c = search needs
 
 returns : tie.Need-returns
-returns c = shl-exact 1 (c .args .e) 16 (lit< tt) (omega arith) ∙ one-mul (2 ^ c .args .e)
+returns c = power-shifted 10 (c .args .e) (omega arith)
 
 pub pow2-spec : {M : Type 1} → statement M
-pow2-spec = tie.close (tie.spec shl-result returns)
+pow2-spec = tie.close (tie.spec sub-result shr-result returns)

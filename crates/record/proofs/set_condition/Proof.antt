@@ -1,10 +1,12 @@
 -- `record::set_condition` meets its contract. Assumes nothing.
 use borrow.Author.Needs.{needs}
 use Prim.Native.Nat.{ℕ, _+_}
-use mathlib.Core.Path.{ap, _∙_}
+use mathlib.Core.Path.{sym, ap, _∙_}
+use mathlib.Core.List.{List}
 use native.Mathlib.Omega.{arith}
 use lib.ListN.{set}
-use Rattle.record.proofs.InPlace.{set-condition}
+use Rattle.record.proofs.Round.{encode-decode, sized-decode}
+use Rattle.record.proofs.InPlace.{set-condition-entry}
 use Rattle.record.proofs.set_condition.Statement.{statement}
 use Rattle.record.proofs.set_condition.Tie as tie
 
@@ -23,8 +25,11 @@ same-length c = search needs
 returns : tie.Need-returns
 returns c =
     let start = c .before .before in
-    ap (λ (i : ℕ). set (start .args .bytes .now) (2064 + i) (start .args .condition)) (c .index .ensures)
-    ∙ set-condition _ (start .pre .0) (λ i. omega (arith, c .before .slice-known .given i)) (start .pre .1 .1) _ _
+    let v = start .args .condition in
+    let at = 2064 + start .args .x .0 in
+    ap (λ (i : ℕ). set (start .args .bytes .now) (2064 + i) v) (c .index .ensures)
+    ∙ ap (λ (l : List ℕ). set l at v) (sym (encode-decode _ (start .pre .0) (λ i. omega (arith, c .before .slice-known .given i)) (start .pre .1 .1)))
+    ∙ set-condition-entry _ (sized-decode _) _ v
 
 pub set-condition-spec : {M : Type 1} → statement M
 set-condition-spec =

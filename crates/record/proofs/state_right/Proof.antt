@@ -4,8 +4,8 @@ use borrow.Author.Needs.{needs}
 use borrow.Author.Tests.{not-true, not-false}
 use mathlib.Core.Path.{_≡_, sym, ap, ap₂, _∙_}
 use native.Mathlib.Omega.{arith}
-use Rattle.allocator.specs.Valid.{mapRight, nodesRight}
-use Rattle.allocator.proofs.Valid.{not-small, not-permuted, by-nodes}
+use Rattle.state.specs.Valid.{mapRight, nodesRight}
+use Rattle.state.proofs.Valid.{not-small, not-permuted, by-nodes}
 use Rattle.record.specs.Layout.{decode}
 use Rattle.record.proofs.state_right.Statement.{statement}
 use Rattle.record.proofs.state_right.Tie as tie

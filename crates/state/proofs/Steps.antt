@@ -1,0 +1,156 @@
+-- Each way out of a call, in the table's order: what it is told where the earlier checks pass. Assumes nothing.
+use Prim.Native.Nat.{ℕ, _<_, _≤_}
+use mathlib.Core.Logic.{_≢_}
+use mathlib.Core.Path.{_≡_, sym, ap, _∙_}
+use mathlib.Core.Bool.{Bool, true, false, not}
+use mathlib.Core.List.{List}
+use borrow.Author.Tests.{lt-ltb, le-ltb, eq-eqb, ne-eqb}
+use lib.Dec.{eqb}
+use lib.ListN.{getD}
+use Rattle.hypercube.specs.Lists.{countBelow}
+use Rattle.hypercube.specs.Bits.{width}
+use Rattle.hypercube.specs.Labels.{node}
+use Rattle.hypercube.specs.Subcubes.{vertices}
+use Rattle.hypercube.specs.declared.Node.{Node}
+use Rattle.hypercube.specs.declared.Subcube.{Subcube}
+use Rattle.hypercube.specs.declared.Walk.{Walk}
+use Rattle.hypercube.specs.declared.Walk.the-variants.{Found, NoneFree}
+use Rattle.labels.specs.Flags.{numbered}
+use Rattle.labels.specs.Relabelling.{relabelling}
+use Rattle.labels.specs.declared.Relabelled.{Relabelled}
+use Rattle.state.specs.declared.State.{State}
+use Rattle.state.specs.declared.Call.{Call}
+use Rattle.state.specs.declared.Reply.the-variants.{Granted, Refused, Done}
+use Rattle.state.specs.States.{withCondition, withMap, withHolders, given, cleared}
+use Rattle.state.specs.Valid.{anyBelow, valid}
+use Rattle.state.specs.Acts.{step, refuse, nodeCount, holds, anyHeld, goodStep, faultStep, repairedStep, relabelStep, walkOf, grantStep, requestStep, releaseStep, acted, called}
+use Rattle.state.specs.Tried.{triedIn}
+use Rattle.state.proofs.Below.{any-counted}
+
+-- ---- reports of node x
+
+module _ (s : State) (x : ℕ) where
+  pub good-8 : nodeCount s ≤ x → refuse s 8 ≡ goodStep s x
+  unfolding goodStep
+  good-8 h = simp (le-ltb _ _ h)
+
+  pub fault-8 : nodeCount s ≤ x → refuse s 8 ≡ faultStep s x
+  unfolding faultStep
+  fault-8 h = simp (le-ltb _ _ h)
+
+  pub repaired-8 : nodeCount s ≤ x → refuse s 8 ≡ repairedStep s x
+  unfolding repairedStep
+  repaired-8 h = simp (le-ltb _ _ h)
+
+  module _ (h : x < nodeCount s) where
+    pub good-12 : getD (s .conditions) x 0 ≡ 2 → refuse s 12 ≡ goodStep s x
+    unfolding goodStep
+    good-12 e = simp (lt-ltb _ _ h, eq-eqb _ _ e)
+
+    pub good-done : getD (s .conditions) x 0 ≢ 2 → step (withCondition s x 1) (Done 0) ≡ goodStep s x
+    unfolding goodStep
+    good-done e = simp (lt-ltb _ _ h, ne-eqb _ _ e)
+
+    pub fault-done : step (withCondition s x 2) (Done (getD (s .holders) x 0)) ≡ faultStep s x
+    unfolding faultStep
+    fault-done = simp (lt-ltb _ _ h)
+
+    pub repaired-12 : getD (s .conditions) x 0 ≢ 2 → refuse s 12 ≡ repairedStep s x
+    unfolding repairedStep
+    repaired-12 e = simp (lt-ltb _ _ h, ne-eqb _ _ e)
+
+    pub repaired-done : getD (s .conditions) x 0 ≡ 2 → step (withCondition s x 0) (Done 0) ≡ repairedStep s x
+    unfolding repairedStep
+    repaired-done e = simp (lt-ltb _ _ h, eq-eqb _ _ e)
+
+-- ---- a job j, and k, the number of nodes that it is found to hold below N
+
+module _ (s : State) (j N k : ℕ) (e : N ≡ nodeCount s) (q : k ≡ countBelow N (λ x. eqb (getD (s .holders) x 0) j)) where
+  pub counted : k ≡ countBelow (nodeCount s) (λ x. eqb (getD (s .holders) x 0) j)
+  counted = q ∙ ap (λ (m : ℕ). countBelow m (λ x. eqb (getD (s .holders) x 0) j)) e
+
+  pub holds-none : k ≡ 0 → holds s j ≡ false
+  holds-none z = any-counted (λ x. eqb (getD (s .holders) x 0) j) (nodeCount s) ∙ ap not (eq-eqb _ 0 (sym counted ∙ z))
+
+  pub holds-some : k ≢ 0 → holds s j ≡ true
+  holds-some z = any-counted (λ x. eqb (getD (s .holders) x 0) j) (nodeCount s) ∙ ap not (ne-eqb _ 0 (λ y. z (counted ∙ y)))
+
+-- ---- a release by job j
+
+module _ (s : State) (j : ℕ) where
+  pub release-6 : j ≡ 0 → refuse s 6 ≡ releaseStep s j
+  unfolding releaseStep
+  release-6 e = simp (eq-eqb _ _ e)
+
+  module _ (p : j ≢ 0) where
+    pub release-11 : holds s j ≡ false → refuse s 11 ≡ releaseStep s j
+    unfolding releaseStep
+    release-11 h = simp (ne-eqb _ _ p, h)
+
+    pub release-done : holds s j ≡ true → (hs : List ℕ) → hs ≡ cleared (s .holders) j
+        → (k : ℕ) → k ≡ countBelow (nodeCount s) (λ x. eqb (getD (s .holders) x 0) j) → step (withHolders s hs) (Done k) ≡ releaseStep s j
+    unfolding releaseStep
+    release-done h hs eh k ek = simp (ne-eqb _ _ p, h, eh, ek)
+
+-- ---- a relabel
+
+module _ (s : State) (N : ℕ) (e : N ≡ nodeCount s) (b : Bool) (q : b ≡ anyBelow (λ x. not (eqb (getD (s .holders) x 0) 0)) N) where
+  held : b ≡ anyHeld s
+  held = q ∙ ap (anyBelow (λ x. not (eqb (getD (s .holders) x 0) 0))) e
+
+  pub relabel-13 : b ≡ true → refuse s 13 ≡ relabelStep s
+  unfolding relabelStep
+  relabel-13 y = rw (sym held ∙ y, relabelStep)
+
+  pub relabel-done : (r : Relabelled) → r ≡ relabelling (s .n) (s .conditions) → b ≡ false → step (withMap s (r .map)) (Done (r .size)) ≡ relabelStep s
+  unfolding relabelStep
+  relabel-done r h y = rw (h, sym held ∙ y, relabelStep)
+
+-- ---- a request by job j for dimension k under strategy f
+
+module _ (s : State) (j k f : ℕ) where
+  pub request-6 : j ≡ 0 → refuse s 6 ≡ requestStep s j k f
+  unfolding requestStep
+  request-6 e = simp (eq-eqb _ _ e)
+
+  module _ (p : j ≢ 0) where
+    pub request-7 : s .n < k → refuse s 7 ≡ requestStep s j k f
+    unfolding requestStep
+    request-7 h = simp (ne-eqb _ _ p, lt-ltb _ _ h)
+
+    module _ (h : k ≤ s .n) where
+      pub request-9 : 3 < f → refuse s 9 ≡ requestStep s j k f
+      unfolding requestStep
+      request-9 l = simp (ne-eqb _ _ p, le-ltb _ _ h, lt-ltb _ _ l)
+
+      module _ (l : f ≤ 3) where
+        pub request-10 : holds s j ≡ true → refuse s 10 ≡ requestStep s j k f
+        unfolding requestStep
+        request-10 y = simp (ne-eqb _ _ p, le-ltb _ _ h, le-ltb _ _ l, y)
+
+        pub request-walk : holds s j ≡ false → grantStep s j (walkOf s k f) ≡ requestStep s j k f
+        unfolding requestStep
+        request-walk y = simp (ne-eqb _ _ p, le-ltb _ _ h, le-ltb _ _ l, y)
+
+-- ---- what is told of a walk
+
+module _ (s : State) (j : ℕ) (w v : Walk) (a : w ≡ v) (tried : ℕ) (q : tried ≡ triedIn w) where
+  pub grant-14 : (t : ℕ) → w ≡ NoneFree t → step s (Refused 14 tried) ≡ grantStep s j v
+  grant-14 t e = ap (λ (m : ℕ). step s (Refused 14 m)) (q ∙ ap triedIn e) ∙ ap (grantStep s j) (sym e ∙ a)
+
+  pub grant-found : (c : Subcube) (t : ℕ) → w ≡ Found c t → (low : Node) → low .0 ≡ node (s .map) (c .low .0)
+      → (stars : ℕ) → stars ≡ node (s .map) (c .stars)
+      → (hs : List ℕ) → hs ≡ given (s .holders) (vertices width stars (low .0)) j
+      → step (withHolders s hs) (Granted j low stars tried) ≡ grantStep s j v
+  grant-found c t e low el stars es hs eh =
+      let at : low ≡ numbered (node (s .map) (c .low .0)) = ap numbered el in
+      rw (sym a ∙ e, eh, at, es, q ∙ ap triedIn e)
+
+-- ---- a call on any state
+
+module _ (s : State) (c : Call) where
+  pub called-1 : valid s ≡ false → refuse s 1 ≡ called s c
+  called-1 e = rw e
+
+  pub called-on : valid s ≡ true → acted s c ≡ called s c
+  called-on e = rw e

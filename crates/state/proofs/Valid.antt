@@ -1,0 +1,189 @@
+-- What refusal 1's test says of a state, as facts; and that the test holds exactly where the facts do. Assumes nothing.
+use Prim.Native.Nat.{ℕ, zero, suc, _+_, _-_, _^_, _<_, _≤_}
+use mathlib.Core.Logic.{_↔_, _⊎_, inl, inr, ⊎-elim}
+use mathlib.Core.Path.{_≡_, refl, sym, ap, ap₂, _∙_, subst}
+use mathlib.Core.Bool.{Bool, true, false, not, cond, _&&_, false≢true}
+use mathlib.Core.List.{List}
+use native.Mathlib.Omega.{arith}
+use native.Mathlib.Nat.{lt-of-lt-of-le}
+use borrow.Author.Tests.{lt-ltb, le-ltb, lt-leb, le-leb}
+use lib.Dec.{eqb, ltb, leb}
+use lib.ListN.{length, getD}
+use lib.Pow.{pow-mono}
+use Rattle.hypercube.specs.Bits.{width}
+use Rattle.hypercube.specs.Lists.{Some}
+use Rattle.hypercube.specs.Labels.{Permutes}
+use Rattle.hypercube.proofs.Bits.{lt-or}
+use Rattle.hypercube.proofs.Tests.{Means, means-iff, means-eq, means-le, means-not, means-and, means-or}
+use Rattle.state.specs.declared.State.{State}
+pub use Rattle.state.specs.Valid.{Valid}
+use Rattle.state.specs.Valid.{allBelow, anyBelow, entryRight, mapRight, nodeRight, nodesRight, valid}
+use Rattle.state.proofs.Below.{all-split, all-same}
+
+-- ---- tests below a number
+
+pub means-true : {b : Bool} → Means b (b ≡ true)
+means-true = record { holds = λ e. e; shows = λ e. e }
+
+-- what holds below N and of N holds below N + 1
+below-next : (P : ℕ → Type 0) (N : ℕ) → (((x : ℕ) → x < N → P x) × P N) ↔ ((x : ℕ) → x < suc N → P x)
+below-next P N = (
+  λ h x l. ⊎-elim (h .0 x) (λ g. let e : N ≡ x = omega arith in subst P e (h .1)) (lt-or x N),
+  λ h. (λ x l. h x (omega arith), h N (omega arith)),
+)
+
+pub means-all : (test : ℕ → Bool) (N : ℕ) → Means (allBelow test N) ((x : ℕ) → x < N → test x ≡ true)
+unfolding allBelow
+means-all test zero = record { holds = λ e x l. absurd (omega arith); shows = λ h. refl }
+means-all test (suc N) = means-iff (means-and (means-all test N) means-true) (below-next (λ x. test x ≡ true) N)
+
+some-next : (P : ℕ → Type 0) (N : ℕ) → (Some N P ⊎ P N) ↔ Some (suc N) P
+some-next P N = (
+  ⊎-elim (λ h. (h .0, omega arith, h .2)) (λ p. (N, omega arith, p)),
+  λ h. ⊎-elim (λ l. inl (h .0, l, h .2)) (λ g. let e : h .0 ≡ N = omega arith in inr (subst P e (h .2))) (lt-or (h .0) N),
+)
+
+pub means-any : (test : ℕ → Bool) (N : ℕ) → Means (anyBelow test N) (Some N (λ x. test x ≡ true))
+unfolding anyBelow
+means-any test zero = record { holds = λ e. absurd (false≢true e); shows = λ h. absurd (omega (arith, h .1)) }
+means-any test (suc N) = means-iff (means-or (means-any test N) means-true) (some-next (λ x. test x ≡ true) N)
+
+-- a test at each number below N stands for a fact of each
+pub means-each : (test : ℕ → Bool) (P : ℕ → Type 0) (N : ℕ) → ((x : ℕ) → x < N → Means (test x) (P x))
+    → Means (allBelow test N) ((x : ℕ) → x < N → P x)
+means-each test P N m =
+    means-iff (means-all test N) (λ h x l. m x l .holds (h x l), λ h x l. m x l .shows (h x l))
+
+-- a test that goes by whether x is below N
+means-either : (x N : ℕ) {a b : Bool} {P Q : Type 0} → Means a P → Means b Q
+    → Means (cond (ltb x N) a b) ((x < N → P) × (N ≤ x → Q))
+means-either x N {a} {b} {P} {Q} m k =
+    ⊎-elim (λ l. rw (lt-ltb x N l) (means-iff m (λ p. (λ i. p, λ g. absurd (omega arith)), λ h. h .0 l)))
+    (λ g. rw (le-ltb x N g) (means-iff k (λ q. (λ l. absurd (omega arith), λ i. q), λ h. h .1 g)))
+    (lt-or x N)
+
+-- ---- the map
+
+-- what the test of one entry says
+abbrev Entry : List ℕ → ℕ → ℕ → Type 0
+Entry ds n i =
+    (i < n → (1 ≤ getD ds i 0) × ((getD ds i 0 ≤ n) × ((j : ℕ) → j < i → ¬ (getD ds j 0 ≡ getD ds i 0))))
+    × (n ≤ i → getD ds i 0 ≡ i + 1)
+
+means-entry : (ds : List ℕ) (n i : ℕ) → Means (entryRight ds n i) (Entry ds n i)
+unfolding entryRight
+means-entry ds n i =
+    means-either i n
+    (means-and (means-le 1 (getD ds i 0))
+    (means-and (means-le (getD ds i 0) n)
+    (means-each (λ j. not (eqb (getD ds j 0) (getD ds i 0))) (λ j. ¬ (getD ds j 0 ≡ getD ds i 0)) i
+    (λ j l. means-not (means-eq (getD ds j 0) (getD ds i 0))))))
+    (means-eq (getD ds i 0) (i + 1))
+
+-- the entries, n of them at most ten, are right where the map permutes
+module _ (ds : List ℕ) (n : ℕ) (small : n ≤ 10) (long : length ds ≡ 10) where
+  permutes-of : ((i : ℕ) → i < width → Entry ds n i) → Permutes n ds
+  permutes-of h = record {
+    entries = long;
+    within = λ i l. (h i (omega arith) .0 l .0, h i (omega arith) .0 l .1 .0);
+    distinct = λ i j a b e.
+        ⊎-elim (λ l. absurd (h j (omega arith) .0 b .1 .1 i l e))
+        (λ g. ⊎-elim (λ l. absurd (h i (omega arith) .0 a .1 .1 j l (sym e))) (λ k. omega arith) (lt-or j i)) (lt-or i j);
+    own = λ i a b. h i b .1 a;
+  }
+
+  entries-of : Permutes n ds → (i : ℕ) → i < width → Entry ds n i
+  entries-of P i b = (
+    λ l. (P .within i l .0, (P .within i l .1, λ j k e. omega (arith, P .distinct j i (omega arith) l e))),
+    λ a. P .own i a b,
+  )
+
+  pub means-map : Means (mapRight ds n) (Permutes n ds)
+  unfolding mapRight
+  means-map =
+      means-iff (means-each (entryRight ds n) (Entry ds n) width (λ i l. means-entry ds n i)) (permutes-of, entries-of)
+
+-- ---- the nodes
+
+abbrev OfNode : List ℕ → List ℕ → ℕ → ℕ → Type 0
+OfNode hs cs N x = (x < N → getD cs x 0 ≤ 2) × (N ≤ x → (getD hs x 0 ≡ 0) × (getD cs x 0 ≡ 0))
+
+pub means-nodes : (hs cs : List ℕ) (N : ℕ) → Means (nodesRight hs cs N) ((x : ℕ) → x < 1024 → OfNode hs cs N x)
+unfolding nodesRight nodeRight
+means-nodes hs cs N =
+    means-each (nodeRight hs cs N) (OfNode hs cs N) 1024
+    (λ x l. means-either x N (means-le (getD cs x 0) 2) (means-and (means-eq (getD hs x 0) 0) (means-eq (getD cs x 0) 0)))
+
+-- ---- the state
+
+-- a second test that is read where the first holds
+means-then : {a b : Bool} {P Q : Type 0} → Means a P → (P → Means b Q) → Means (a && b) (P × Q)
+means-then {a} {b} {P} {Q} m k = record { holds = go a m; shows = back a m }
+  where
+    go : (a : Bool) → Means a P → a && b ≡ true → P × Q
+    go true m e = let p = m .holds refl in (p, k p .holds e)
+    go false m e = absurd (false≢true e)
+
+    back : (a : Bool) → Means a P → P × Q → a && b ≡ true
+    back true m h = k (h .0) .shows (h .1)
+    back false m h = m .shows (h .0)
+
+abbrev Parts : State → Type 0
+Parts s = (s .n ≤ 10) × (Permutes (s .n) (s .map) × ((x : ℕ) → x < 1024 → OfNode (s .holders) (s .conditions) (2 ^ s .n) x))
+
+pub means-valid : (s : State) → length (s .map) ≡ 10 → Means (valid s) (Valid s)
+unfolding valid
+means-valid s long =
+    means-iff
+    (means-then (means-le (s .n) 10)
+    (λ small. means-and (means-map (s .map) (s .n) small long) (means-nodes (s .holders) (s .conditions) (2 ^ s .n))))
+    (together, apart)
+  where
+    together : Parts s → Valid s
+    together h = record {
+      small = h .0;
+      permutes = h .1 .0;
+      conditions = λ x l. h .1 .1 x (lt-of-lt-of-le l (pow-mono (h .0))) .0 l;
+      no-conditions = λ x g l. h .1 .1 x l .1 g .1;
+      no-holders = λ x g l. h .1 .1 x l .1 g .0;
+    }
+
+    apart : Valid s → Parts s
+    apart v = (v .small, (v .permutes, λ x l. (v .conditions x, λ g. (v .no-holders x g l, v .no-conditions x g l))))
+
+-- ---- the test, part by part
+
+-- a node from N up
+abbrev empty : List ℕ → List ℕ → ℕ → Bool
+empty hs cs x = eqb (getD hs x 0) 0 && eqb (getD cs x 0) 0
+
+nodes-parts : (hs cs : List ℕ) (N : ℕ) → N ≤ 1024
+    → allBelow (λ x. leb (getD cs x 0) 2) N && allBelow (λ i. empty hs cs (N + i)) (1024 - N) ≡ nodesRight hs cs N
+unfolding nodesRight nodeRight
+nodes-parts hs cs N h =
+    let e : N + (1024 - N) ≡ 1024 = omega arith in
+    ap₂ _&&_
+    (all-same (λ x. leb (getD cs x 0) 2) (nodeRight hs cs N) N (λ x l. rw (lt-ltb x N l)))
+    (all-same (λ i. empty hs cs (N + i)) (λ i. nodeRight hs cs N (N + i)) (1024 - N) (λ i l. let g : N ≤ N + i = omega arith in rw (le-ltb (N + i) N g)))
+    ∙ sym (all-split (nodeRight hs cs N) N (1024 - N))
+    ∙ ap (allBelow (nodeRight hs cs N)) e
+
+module _ (s : State) where
+  pub not-small : 10 < s .n → false ≡ valid s
+  unfolding valid
+  not-small h = rw (lt-leb (s .n) 10 h)
+
+  module _ (h : s .n ≤ 10) where
+    pub not-permuted : mapRight (s .map) (s .n) ≡ false → false ≡ valid s
+    unfolding valid
+    not-permuted e = rw (le-leb (s .n) 10 h, e)
+
+    pub by-nodes : mapRight (s .map) (s .n) ≡ true → nodesRight (s .holders) (s .conditions) (2 ^ s .n) ≡ valid s
+    unfolding valid
+    by-nodes e = rw (le-leb (s .n) 10 h, e)
+
+    pub by-parts : mapRight (s .map) (s .n) ≡ true → (N : ℕ) → N ≡ 2 ^ s .n → N ≤ 1024
+        → (a b : Bool) → a ≡ allBelow (λ x. leb (getD (s .conditions) x 0) 2) N
+        → b ≡ allBelow (λ i. empty (s .holders) (s .conditions) (N + i)) (1024 - N) → a && b ≡ valid s
+    by-parts e N q l a b ea eb =
+        ap₂ _&&_ ea eb ∙ nodes-parts (s .holders) (s .conditions) N l ∙ ap (nodesRight (s .holders) (s .conditions)) q ∙ by-nodes e

@@ -1,0 +1,104 @@
+-- What each call does to a state, and is told. Document 01, "Six calls and their frames" and "When a call says no": the checks in the table's order.
+use Prim.Native.Nat.{ℕ, zero, suc, _+_, _^_}
+use mathlib.Core.Bool.{Bool, true, false, not, cond}
+use mathlib.Core.List.{List}
+use lib.Dec.{eqb, ltb}
+use lib.ListN.{getD}
+use Rattle.hypercube.specs.Bits.{width}
+use Rattle.hypercube.specs.Lists.{countBelow}
+use Rattle.hypercube.specs.Labels.{node, differing, size, relabelled}
+use Rattle.hypercube.specs.Subcubes.{vertices}
+use Rattle.hypercube.specs.Families.{choice}
+use Rattle.hypercube.specs.declared.Node.{Node}
+use Rattle.hypercube.specs.declared.Walk.{Walk}
+use Rattle.hypercube.specs.declared.Walk.the-variants.{Found, NoneFree}
+use Rattle.labels.specs.Flags.{flags}
+use Rattle.labels.specs.Relabelling.{faulty}
+use Rattle.walks.specs.Flagged.{flagged}
+use Rattle.state.specs.declared.State.{State}
+use Rattle.state.specs.declared.Call.{Call}
+use Rattle.state.specs.declared.Call.the-variants.{Good, Fault, Repaired, Relabel, Request, Release}
+use Rattle.state.specs.declared.Reply.{Reply}
+use Rattle.state.specs.declared.Reply.the-variants.{Granted, Refused, Done}
+use Rattle.state.specs.declared.Step.{Step}
+use Rattle.state.specs.States.{withCondition, withMap, withHolders, given, cleared}
+use Rattle.state.specs.Valid.{anyBelow, valid}
+
+-- a reply's number: 0, or the refusal's
+abbrev pub numberOf : Reply → ℕ
+numberOf (Granted j low stars t) = 0
+numberOf (Refused m t) = m
+numberOf (Done v) = 0
+
+abbrev pub step : State → Reply → Step
+step s r = record { state = s; reply = r }
+
+-- "the same numbers with the state as it came"
+abbrev pub refuse : State → ℕ → Step
+refuse s m = step s (Refused m 0)
+
+-- how many nodes there are; whether a job holds any; whether any is held
+abbrev pub nodeCount : State → ℕ
+nodeCount s = 2 ^ s .n
+
+abbrev pub holds : State → ℕ → Bool
+holds s j = anyBelow (λ x. eqb (getD (s .holders) x 0) j) (nodeCount s)
+
+abbrev pub anyHeld : State → Bool
+anyHeld s = anyBelow (λ x. not (eqb (getD (s .holders) x 0) 0)) (nodeCount s)
+
+-- the three reports
+unfoldable pub goodStep : State → ℕ → Step
+goodStep s x =
+    cond (ltb x (nodeCount s)) (cond (eqb (getD (s .conditions) x 0) 2) (refuse s 12) (step (withCondition s x 1) (Done 0))) (refuse s 8)
+
+unfoldable pub faultStep : State → ℕ → Step
+faultStep s x = cond (ltb x (nodeCount s)) (step (withCondition s x 2) (Done (getD (s .holders) x 0))) (refuse s 8)
+
+unfoldable pub repairedStep : State → ℕ → Step
+repairedStep s x =
+    cond (ltb x (nodeCount s)) (cond (eqb (getD (s .conditions) x 0) 2) (step (withCondition s x 0) (Done 0)) (refuse s 12)) (refuse s 8)
+
+unfoldable pub relabelStep : State → Step
+relabelStep s =
+    cond (anyHeld s) (refuse s 13)
+    (step (withMap s (relabelled (s .n) (faulty (s .conditions)))) (Done (size (differing (s .n) (faulty (s .conditions))))))
+
+-- the walk of a request, on the flags by label
+abbrev pub walkOf : State → ℕ → ℕ → Walk
+walkOf s k f = choice f (s .n) k (flagged (flags (s .n) (s .map) (s .conditions) (s .holders)))
+
+-- a walk's answer: the member granted, by its lowest node and its star bits; or refusal 14 with the family's whole count
+abbrev pub grantStep : State → ℕ → Walk → Step
+grantStep s j (Found c t) =
+    let low = node (s .map) (c .low .0) in
+    let stars = node (s .map) (c .stars) in
+    step (withHolders s (given (s .holders) (vertices width stars low) j)) (Granted j (record { 0 = low }) stars t)
+grantStep s j (NoneFree t) = step s (Refused 14 t)
+
+unfoldable pub requestStep : State → ℕ → ℕ → ℕ → Step
+requestStep s j k f =
+    cond (eqb j 0) (refuse s 6)
+    (cond (ltb (s .n) k) (refuse s 7)
+    (cond (ltb 3 f) (refuse s 9)
+    (cond (holds s j) (refuse s 10) (grantStep s j (walkOf s k f)))))
+
+unfoldable pub releaseStep : State → ℕ → Step
+releaseStep s j =
+    cond (eqb j 0) (refuse s 6)
+    (cond (holds s j)
+    (step (withHolders s (cleared (s .holders) j)) (Done (countBelow (nodeCount s) (λ x. eqb (getD (s .holders) x 0) j))))
+    (refuse s 11))
+
+-- a call on a state that is as "Node and record" says
+abbrev pub acted : State → Call → Step
+acted s (Good x) = goodStep s (x .0)
+acted s (Fault x) = faultStep s (x .0)
+acted s (Repaired x) = repairedStep s (x .0)
+acted s Relabel = relabelStep s
+acted s (Request j k f) = requestStep s j k f
+acted s (Release j) = releaseStep s j
+
+-- a call on any state: 1 comes before the others
+abbrev pub called : State → Call → Step
+called s c = cond (valid s) (acted s c) (refuse s 1)
