@@ -3,7 +3,7 @@ use Prim.Native.Nat.{ℕ, zero, suc, _+_, _-_, _*_, _/_, _^_, _<_, _≤_}
 use mathlib.Core.Logic.{⊎-elim}
 use mathlib.Core.Path.{_≡_, refl, sym, ap, ap₂, _∙_}
 use mathlib.Core.Bool.{Bool, true, false, _&&_}
-use mathlib.Core.List.{List, [], _∷_, _++_}
+use mathlib.Core.List.{List, _++_}
 use native.Mathlib.Nat.{pow-succ'}
 use native.Mathlib.Omega.{arith}
 use lib.Count.{ones as ones-of, ones-step, ones-le}
@@ -48,7 +48,7 @@ module _ {n k d l α : ℕ} (R : Row n k d l α) where
   bottom-lt : 2 ^ l - 1 < 2 ^ (n - d)
   bottom-lt = omega (arith, ones-lt l, pow-mono {i = l} {j = n - d} (omega arith))
 
-  star-count : ones width (top + (2 ^ l - 1)) ≡ k - 1
+  star-count : ones width (top + (2 ^ l - 1)) ≡ l + d
   star-count =
       let r : n - d + d ≡ n = omega arith in
       let s : l + (n - d - l) ≡ n - d = omega arith in
@@ -62,7 +62,7 @@ module _ {n k d l α : ℕ} (R : Row n k d l α) where
         ones-low l,
       )
 
-  pub block-room : Testable (k - 1) (treeBlock n d l α)
+  pub block-room : Testable (l + d) (treeBlock n d l α)
   block-room =
       let r : l + (n - (k - 1)) ≡ n - d = omega arith in (
         omega (
@@ -133,11 +133,6 @@ zeros-ones α (suc c) p h =
       ones-step x,
     )
 
--- a list that has an entry
-entered : (m : Subcube) (ms : List Subcube) → In m ms → 0 < length ms
-entered m [] i = absurd i
-entered m (x ∷ ms) i = omega arith
-
 -- a walk that comes to those of c places from a on, t of them
 module _ {n k d l α : ℕ} (R : Row n k d l α) (c a : ℕ) {t : ℕ} (u : t ≡ zeroDigits α c a) {f : ℕ → Bool} {family rest : List Subcube} {tried : ℕ}
     (s : Stands f family rest tried) (rest′ : List Subcube) (e : rest ≡ places n d l α c a ++ rest′) where
@@ -147,12 +142,12 @@ module _ {n k d l α : ℕ} (R : Row n k d l α) (c a : ℕ) {t : ℕ} (u : t �
   pub counts-row : tried + t ≤ length family
   counts-row = rw many at (counts-all s (places n d l α c a) rest′ e)
 
-  -- there is none, or the block is not free, and so none is
-  pub misses-row : a + c ≤ n - (k - 1) → (0 < t → isFree f (treeBlock n d l α) ≡ false) → Stands f family rest′ (tried + t)
+  -- the block is not free, and so none of them is
+  pub misses-row : a + c ≤ n - (k - 1) → isFree f (treeBlock n d l α) ≡ false → Stands f family rest′ (tried + t)
   misses-row q z = rw many at (misses-all s (places n d l α c a) rest′ e one)
     where
       one : (m : Subcube) → In m (places n d l α c a) → isFree f m ≡ false
       one m i =
           let o = in-over (λ p. only (clear α p) (treeMember n d l α p)) c a m i in
           ap (isFree f) (in-only (clear α (o .0)) (treeMember n d l α (o .0)) m (o .3) .1)
-          ∙ halves R f (o .0) false (omega arith) (z (rw many at (entered m (places n d l α c a) i)))
+          ∙ halves R f (o .0) false (omega arith) z

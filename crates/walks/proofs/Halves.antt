@@ -46,6 +46,14 @@ module _ (f : ℕ → Bool) where
   free-node zero s b h = refl
   free-node (suc e) s b h = past e s b (omega arith) ∙ free-node e s b (omega arith)
 
+  -- where its lowest label is not free, no subcube is
+  pub lowest-first : (e s b : ℕ) → f b ≡ false → freeAt f e s b ≡ false
+  unfolding freeAt
+  lowest-first zero s b h = h
+  lowest-first (suc e) s b h =
+      ⊎-elim (λ z. past e s b z ∙ lowest-first e s b h)
+      (λ o. across e s b o ∙ ap (λ (x : Bool). x && freeAt f e s (b + 2 ^ e)) (lowest-first e s b h)) (bit-cases s e)
+
   -- across the star 2^i, where s are the others
   pub across-any : (e s i b : ℕ) → i < e → bit s i ≡ 0 → freeAt f e (s + 2 ^ i) b ≡ freeAt f e s b && freeAt f e s (b + 2 ^ i)
   across-any zero s i b h z = absurd (omega arith)

@@ -1,5 +1,5 @@
 -- The tree's and extended's lists as their loops have them, and how few they are. Assumes nothing.
-use Prim.Native.Nat.{ℕ, zero, suc, _+_, _-_, _*_, _^_, _<_, _≤_}
+use Prim.Native.Nat.{ℕ, zero, suc, _+_, _-_, _*_, _^_, _≤_}
 use mathlib.Core.Path.{_≡_, sym, ap, _∙_}
 use mathlib.Core.List.{_++_}
 use native.Mathlib.Nat.{pow-succ', mul-le-mul, mul-le-mul-right, le-trans}

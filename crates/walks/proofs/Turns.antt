@@ -15,10 +15,6 @@ use Rattle.hypercube.specs.declared.Walk.the-variants.{Found, NoneFree}
 use Rattle.hypercube.proofs.Search.{none-found}
 use Rattle.walks.specs.Stands.{Stands}
 
--- what the code's test r of x, which it made as c, told
-pub told : (f : ℕ → Bool) {c x : Subcube} {r b : Bool} → r ≡ isFree f c → c ≡ x → r ≡ b → isFree f x ≡ b
-told f h q t = ap (isFree f) (sym q) ∙ sym h ∙ t
-
 -- ---- the search, one member on
 
 module _ (test : Subcube → Bool) where

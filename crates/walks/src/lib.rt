@@ -41,16 +41,24 @@ fn highest(s: u16) -> u16
     1 << (15 - u16::leading_zeros(s))
 }
 
+// Whether a label is free, by its flag.
+fn label_free(flags: &[u8; 1024], l: Label) -> bool
+    requires { ⌜ l .0 < 1024 ⌝ }
+    ensures { λ r. ⌜ r ≡ flagged (now (flags .entry)) (l .0) ⌝ }
+{
+    let i = l.0 as usize;
+    flags[i] == 1
+}
+
 // Whether a subcube of k stars is free: "at k = 0, its node is free, otherwise both halves across its highest star are free".
 pub fn free(flags: &[u8; 1024], c: Subcube, k: u16) -> bool
     requires { ⌜ Testable k c ⌝ }
     ensures { λ r. ⌜ r ≡ isFree (flagged (now (flags .entry))) c ⌝ }
 {
-    let low = c.low.0;
     if k == 0 {
-        let i = low as usize;
-        return flags[i] == 1;
+        return label_free(flags, c.low);
     }
+    let low = c.low.0;
     let star = highest(c.stars);
     let rest = c.stars - star;
     let lower = Subcube {
@@ -62,6 +70,14 @@ pub fn free(flags: &[u8; 1024], c: Subcube, k: u16) -> bool
         stars: rest,
     };
     free(flags, lower, k - 1) && free(flags, upper, k - 1)
+}
+
+// The same for a walk, which meets many that are not: where the lowest label is not free, nothing is halved.
+fn member_free(flags: &[u8; 1024], c: Subcube, k: u16) -> bool
+    requires { ⌜ Testable k c ⌝ }
+    ensures { λ r. ⌜ r ≡ isFree (flagged (now (flags .entry))) c ⌝ }
+{
+    label_free(flags, c.low) && free(flags, c, k)
 }
 
 // Buddy's member α: the lowest k bits are stars.
@@ -157,7 +173,7 @@ fn each_walk(flags: &[u8; 1024], labels: &[u32; 1024], gray: bool, n: u16, k: u1
         }
         let m = each_member(labels, gray, n, k, alpha);
         tried += 1;
-        if free(flags, m, k) {
+        if member_free(flags, m, k) {
             break 'walk Walk::Found(m, tried);
         }
         alpha += 1;
@@ -200,6 +216,15 @@ fn tree_block(n: u16, d: u16, l: u16, alpha: u16) -> Subcube
     }
 }
 
+// Whether that block is free. Its stars are made only where its lowest label is.
+fn block_free(flags: &[u8; 1024], n: u16, d: u16, l: u16, alpha: u16) -> bool
+    requires { ⌜ (d ≤ n) × (n ≤ 10) ⌝ }
+    requires { ⌜ Testable (l + d) (treeBlock n d l alpha) ⌝ }
+    ensures { λ r. ⌜ r ≡ isFree (flagged (now (flags .entry))) (treeBlock n d l alpha) ⌝ }
+{
+    label_free(flags, Label(alpha * pow2(l))) && free(flags, tree_block(n, d, l, alpha), l + d)
+}
+
 // The member of one star more, the digit at place p: it is this block and the one at α + 2^p.
 fn tree_member(n: u16, d: u16, l: u16, alpha: u16, p: u16) -> Subcube
     requires { ⌜ (d ≤ n) × (n ≤ 10) ⌝ }
@@ -239,21 +264,20 @@ pub fn tree_walk(flags: &[u8; 1024], n: u16, k: u16) -> Walk
         if values <= alpha {
             break 'walk Walk::NoneFree(tried);
         }
-        let zeros = zero_digits(alpha, digits, 0);
         // Where the block is not free, no member that shares it is.
-        if 0 < zeros && free(flags, tree_block(n, 0, low, alpha), low) {
+        if block_free(flags, n, 0, low, alpha) {
             let mut p: u16 = 0; // and for it the least p
             while p < digits {
                 if digit(alpha, p) == 0 {
                     tried += 1;
-                    if free(flags, tree_block(n, 0, low, alpha + pow2(p)), low) {
+                    if block_free(flags, n, 0, low, alpha + pow2(p)) {
                         break 'walk Walk::Found(tree_member(n, 0, low, alpha, p), tried);
                     }
                 }
                 p += 1;
             }
         } else {
-            tried += zeros;
+            tried += zero_digits(alpha, digits, 0);
         }
         alpha += 1;
     }
@@ -278,12 +302,12 @@ fn more_walk(flags: &[u8; 1024], n: u16, k: u16, before: u16) -> Walk
         let mut d: u16 = 1; // by d from 1
         while d < k {
             let l = low - d;
-            if 0 < zeros && free(flags, tree_block(n, d, l, alpha), low) {
+            if block_free(flags, n, d, l, alpha) {
                 let mut p: u16 = 1; // by p from 1
                 while p < digits {
                     if digit(alpha, p) == 0 {
                         tried += 1;
-                        if free(flags, tree_block(n, d, l, alpha + pow2(p)), low) {
+                        if block_free(flags, n, d, l, alpha + pow2(p)) {
                             break 'walk Walk::Found(tree_member(n, d, l, alpha, p), tried);
                         }
                     }

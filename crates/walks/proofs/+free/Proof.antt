@@ -11,6 +11,7 @@ use Rattle.walks.proofs.free.Reads as free
 use Rattle.walks.proofs.free.Kinds as free-kinds
 use Rattle.walks.proofs.+free.Lts-free as free-lts
 use Rattle.walks.proofs.highest.Reads as highest-reads
+use Rattle.walks.proofs.label_free.Reads as label-free-reads
 use Rattle.walks.proofs.+free.{statement}
 use Rattle.walks.proofs.+free.Tie.{close}
 
@@ -25,16 +26,13 @@ abbrev free-below : ℕ → In 1 free-kinds.ps
 free-below t = and 1 free-kinds.ps (falls 1 free-kinds.ps _<_ μ-free t) free.Pre
 
 abbrev claims : ℕ → free-lts.Claims
-claims t = (highest-reads.Asked, highest-reads.Learnt, free-below t, free.Post)
+claims t = (label-free-reads.Asked, label-free-reads.Learnt, highest-reads.Asked, highest-reads.Learnt, free-below t, free.Post)
 
-free-cast-i : (t : ℕ) → free-lts.Need-cast-i (claims t) (free-at t) free.Post
-free-cast-i t c = omega arith
-
-free-element-copy-out-result : (t : ℕ) → free-lts.Need-element-copy-out-result (claims t) (free-at t) free.Post
-free-element-copy-out-result t c = omega arith
+free-label-free-requires : (t : ℕ) → free-lts.Need-label-free-requires (claims t) (free-at t) free.Post
+free-label-free-requires t c κs = omega arith
 
 free-returns : (t : ℕ) → free-lts.Need-returns (claims t) (free-at t) free.Post
-free-returns t c = sym (free-node _ width _ _ (c .before .before .pre .1 .1 ∙ c .before .if1 .taken))
+free-returns t c = c .label-free .ensures ∙ sym (free-node _ width _ _ (c .before .before .pre .1 .1 ∙ c .before .if1 .taken))
 
 free-highest-requires : (t : ℕ) → free-lts.Need-highest-requires (claims t) (free-at t) free.Post
 free-highest-requires t c κs = starred width _ (λ z. c .if1 .left (sym (c .before .pre .1 .1) ∙ z))
@@ -79,8 +77,7 @@ pub +free-spec : {M : Type 1} → statement M
     (claims t)
     (free-at t)
     free.Post
-    (free-cast-i t)
-    (free-element-copy-out-result t)
+    (free-label-free-requires t)
     (free-returns t)
     (free-highest-requires t)
     (free-sub-rest t)

@@ -49,8 +49,8 @@ add-tried c =
       each-few (start (c .before) .args .gray) (start (c .before) .args .n) (start (c .before) .args .k) (omega arith),
     )
 
-free-requires : tie.Need-free-requires Inv-walk μ-walk
-free-requires c κs = rw (c .each-member .ensures) (member (c .before))
+member-free-requires : tie.Need-member-free-requires Inv-walk μ-walk
+member-free-requires c κs = rw (c .each-member .ensures) (member (c .before))
 
 add-alpha : tie.Need-add-alpha Inv-walk μ-walk
 add-alpha c = omega arith
@@ -61,7 +61,7 @@ walk-less c = omega arith
 walk-again : tie.Need-walk-again Inv-walk μ-walk
 walk-again c = (
   misses (c .before .before .before .before .walk .inv .0) (left-next _ _ _ _ (c .before .before .before .if1 .left))
-      (c .before .before .each-member .ensures) (sym (c .before .free .ensures) ∙ c .if2 .left),
+      (c .before .before .each-member .ensures) (sym (c .before .member-free .ensures) ∙ c .if2 .left),
   omega arith,
 )
 
@@ -71,7 +71,7 @@ returns c = ends (c .before .walk .inv .0) (left-done _ _ _ _ (c .if1 .taken))
 returns-2 : tie.Need-returns-2 Inv-walk μ-walk
 returns-2 c =
     hits (c .before .before .before .before .walk .inv .0) (left-next _ _ _ _ (c .before .before .before .if1 .left))
-    (c .before .before .each-member .ensures) (sym (c .before .free .ensures) ∙ c .if2 .taken)
+    (c .before .before .each-member .ensures) (sym (c .before .member-free .ensures) ∙ c .if2 .taken)
 
 pub each-walk-spec : {M : Type 1} → statement M
 each-walk-spec =
@@ -83,7 +83,7 @@ each-walk-spec =
     walk-holds
     each-member-requires
     add-tried
-    free-requires
+    member-free-requires
     add-alpha
     walk-less
     walk-again

@@ -10,12 +10,13 @@ use Rattle.hypercube.specs.Bits.{bit}
 use Rattle.hypercube.specs.Subcubes.{isFree}
 use Rattle.hypercube.specs.Families.{treeMember, places, extended}
 use Rattle.hypercube.specs.declared.Subcube.{Subcube}
+use Rattle.hypercube.proofs.Bits.{wider}
 use Rattle.walks.specs.Flagged.{flagged}
 use Rattle.walks.specs.Blocks.{treeBlock}
 use Rattle.walks.specs.Stands.{Stands}
 use Rattle.walks.proofs.Rests.{left, left-next, left-done, left-all, at-zero, digit-zero, digit-one}
 use Rattle.walks.proofs.Trees.{more-list, extended-few}
-use Rattle.walks.proofs.Turns.{told, stays, counts, misses, hits, ends}
+use Rattle.walks.proofs.Turns.{stays, counts, misses, hits, ends}
 use Rattle.walks.proofs.Blocks.{Row, block-room, alpha-lt, member-tested, member-room, other-row, counts-row, misses-row}
 use Rattle.walks.proofs.more_walk.Statement.{statement}
 use Rattle.walks.proofs.more_walk.Tie as tie
@@ -70,10 +71,7 @@ sub-zero-digits : tie.Need-sub-zero-digits Inv-loop2 μ-loop2 Inv-loop μ-loop I
 sub-zero-digits c = omega arith
 
 zero-digits-requires : tie.Need-zero-digits-requires Inv-loop2 μ-loop2 Inv-loop μ-loop Inv-walk μ-walk
-zero-digits-requires c κs =
-    let args = c .before .before .before .args in
-    let e : args .n - (args .k - 1) - 1 + 1 ≡ args .n - (args .k - 1) = omega arith in
-    (rw e (value c), omega arith)
+zero-digits-requires c κs = (wider (omega arith) (value c), omega arith)
 
 loop-holds : tie.Need-loop-holds Inv-loop2 μ-loop2 Inv-loop μ-loop Inv-walk μ-walk
 loop-holds c = (stays (c .before .before .walk .inv .0) (left-next _ _ _ _ (c .before .if1 .left)), omega arith)
@@ -97,19 +95,16 @@ Row-at c = Row (start c .args .n) (start c .args .k) (c .before .loop .d) (l-of 
 row-at : (c : tie.In-loop Inv-loop2 μ-loop2 Inv-loop μ-loop Inv-walk μ-walk) → Row-at c (α-of c)
 row-at c = record { narrow = omega arith; stars = omega arith; fits = omega arith; value = value (c .before .before .before) }
 
-tree-block-requires : tie.Need-tree-block-requires Inv-loop2 μ-loop2 Inv-loop μ-loop Inv-walk μ-walk
-tree-block-requires c κs = ((omega arith, omega arith), block-room (row-at (c .before)) .0)
-
-free-requires : tie.Need-free-requires Inv-loop2 μ-loop2 Inv-loop μ-loop Inv-walk μ-walk
-free-requires c κs = rw (c .tree-block .ensures) (block-room (row-at (c .before .before)))
+block-free-requires : tie.Need-block-free-requires Inv-loop2 μ-loop2 Inv-loop μ-loop Inv-walk μ-walk
+block-free-requires c κs = ((omega arith, omega arith), block-room (row-at c))
 
 -- where their block is free
-abbrev row-of : tie.Then3 Inv-loop2 μ-loop2 Inv-loop μ-loop Inv-walk μ-walk → tie.In-loop Inv-loop2 μ-loop2 Inv-loop μ-loop Inv-walk μ-walk
-row-of c = c .before .before .before .before
+abbrev row-of : tie.Then2 Inv-loop2 μ-loop2 Inv-loop μ-loop Inv-walk μ-walk → tie.In-loop Inv-loop2 μ-loop2 Inv-loop μ-loop Inv-walk μ-walk
+row-of c = c .before .before
 
-lower : (c : tie.Then3 Inv-loop2 μ-loop2 Inv-loop μ-loop Inv-walk μ-walk)
+lower : (c : tie.Then2 Inv-loop2 μ-loop2 Inv-loop μ-loop Inv-walk μ-walk)
     → isFree (flagged (start (row-of c) .args .flags .now)) (treeBlock (start (row-of c) .args .n) (row-of c .before .loop .d) (l-of (row-of c)) (α-of (row-of c))) ≡ true
-lower c = told _ (c .before .free .ensures) (c .before .before .tree-block .ensures) (c .if3 .taken)
+lower c = sym (c .before .block-free .ensures) ∙ c .if2 .taken
 
 loop2-holds : tie.Need-loop2-holds Inv-loop2 μ-loop2 Inv-loop μ-loop Inv-walk μ-walk
 loop2-holds c = (stays (row-of c .before .loop .inv .0) (left-next _ _ _ _ (row-of c .loop-test .taken)), omega arith)
@@ -118,13 +113,13 @@ digit-requires : tie.Need-digit-requires Inv-loop2 μ-loop2 Inv-loop μ-loop Inv
 digit-requires c κs = omega arith
 
 -- and digit p is 0
-abbrev inner : tie.Then4 Inv-loop2 μ-loop2 Inv-loop μ-loop Inv-walk μ-walk → tie.Then3 Inv-loop2 μ-loop2 Inv-loop μ-loop Inv-walk μ-walk
+abbrev inner : tie.Then3 Inv-loop2 μ-loop2 Inv-loop μ-loop Inv-walk μ-walk → tie.Then2 Inv-loop2 μ-loop2 Inv-loop μ-loop Inv-walk μ-walk
 inner c = c .before .before .before .before
 
-zero : (c : tie.Then4 Inv-loop2 μ-loop2 Inv-loop μ-loop Inv-walk μ-walk) → bit (α-of (row-of (inner c))) (c .before .before .before .loop2 .p) ≡ 0
-zero c = sym (c .before .digit .ensures) ∙ c .if4 .taken
+zero : (c : tie.Then3 Inv-loop2 μ-loop2 Inv-loop μ-loop Inv-walk μ-walk) → bit (α-of (row-of (inner c))) (c .before .before .before .loop2 .p) ≡ 0
+zero c = sym (c .before .digit .ensures) ∙ c .if3 .taken
 
-other : (c : tie.Then4 Inv-loop2 μ-loop2 Inv-loop μ-loop Inv-walk μ-walk) → Row-at (row-of (inner c)) (α-of (row-of (inner c)) + 2 ^ c .before .before .before .loop2 .p)
+other : (c : tie.Then3 Inv-loop2 μ-loop2 Inv-loop μ-loop Inv-walk μ-walk) → Row-at (row-of (inner c)) (α-of (row-of (inner c)) + 2 ^ c .before .before .before .loop2 .p)
 other c = other-row (row-at (row-of (inner c))) (c .before .before .loop2-test .taken) (zero c)
 
 add-tried : tie.Need-add-tried Inv-loop2 μ-loop2 Inv-loop μ-loop Inv-walk μ-walk
@@ -138,19 +133,16 @@ add-tried c =
 pow2-requires-2 : tie.Need-pow2-requires-2 Inv-loop2 μ-loop2 Inv-loop μ-loop Inv-walk μ-walk
 pow2-requires-2 c κs = omega arith
 
-add-tree-block : tie.Need-add-tree-block Inv-loop2 μ-loop2 Inv-loop μ-loop Inv-walk μ-walk
-add-tree-block c = omega (arith, c .pow22 .ensures, alpha-lt (other (c .before)))
+add-block-free : tie.Need-add-block-free Inv-loop2 μ-loop2 Inv-loop μ-loop Inv-walk μ-walk
+add-block-free c = omega (arith, c .pow22 .ensures, alpha-lt (other (c .before)))
 
-tree-block-requires-2 : tie.Need-tree-block-requires-2 Inv-loop2 μ-loop2 Inv-loop μ-loop Inv-walk μ-walk
-tree-block-requires-2 c κs = ((omega arith, omega arith), rw (c .pow22 .ensures) (block-room (other (c .before)) .0))
-
-free-requires-2 : tie.Need-free-requires-2 Inv-loop2 μ-loop2 Inv-loop μ-loop Inv-walk μ-walk
-free-requires-2 c κs = rw (c .tree-block2 .ensures, c .before .pow22 .ensures) (block-room (other (c .before .before)))
+block-free-requires-2 : tie.Need-block-free-requires-2 Inv-loop2 μ-loop2 Inv-loop μ-loop Inv-walk μ-walk
+block-free-requires-2 c κs = ((omega arith, omega arith), rw (c .pow22 .ensures) (block-room (other (c .before))))
 
 tree-member-requires : tie.Need-tree-member-requires Inv-loop2 μ-loop2 Inv-loop μ-loop Inv-walk μ-walk
 tree-member-requires c κs = (
   (omega arith, omega arith),
-  let tried = c .before .before .before .before in
+  let tried = c .before .before .before in
       member-room (row-at (row-of (inner tried))) (tried .before .before .loop2-test .taken) (zero tried) .0,
 )
 
@@ -164,23 +156,23 @@ loop2-again : tie.Need-loop2-again Inv-loop2 μ-loop2 Inv-loop μ-loop Inv-walk 
 loop2-again c = (
   ⊎-elim
       (λ w.
-      rw (w .5)
+      rw (w .4)
       (misses (c .before .before .before .loop2 .inv .0)
       (digit-zero _ _ _ _ _ (c .before .before .loop2-test .taken) (sym (c .before .digit .ensures) ∙ w .0 .taken))
       refl
       (member-tested (row-at (row-of (c .before .before .before .before))) _ _ (c .before .before .loop2-test .taken) (lower (c .before .before .before .before))
-      (told _ (w .3 .ensures) (rw (w .1 .ensures) at (w .2 .ensures)) (w .4 .left)))))
+      (sym (rw (w .1 .ensures) at (w .2 .ensures)) ∙ w .3 .left))))
       (λ w.
       rw (w .1)
       (stays (c .before .before .before .loop2 .inv .0)
       (digit-one _ _ _ _ _ (c .before .before .loop2-test .taken) (λ z. w .0 .left (c .before .digit .ensures ∙ z)))))
-      (c .if4 .came),
+      (c .if3 .came),
   omega arith,
 )
 
 add-tried-2 : tie.Need-add-tried-2 Inv-loop2 μ-loop2 Inv-loop μ-loop Inv-walk μ-walk
 add-tried-2 c =
-    let row = c .before in
+    let row = c .before .before in
     omega (
       arith,
       counts-row (row-at row) _ _ (row .before .before .zero-digits .ensures) (row .before .loop .inv .0) _ (left-next _ _ _ _ (row .loop-test .taken)),
@@ -196,11 +188,12 @@ loop-less c = omega arith
 loop-again : tie.Need-loop-again Inv-loop2 μ-loop2 Inv-loop μ-loop Inv-walk μ-walk
 loop-again c = (
   ⊎-elim
-      (λ w. rw (w .6) (stays (w .4 .inv .0) (left-done _ _ _ _ (w .5 .left))))
+      (λ w. rw (w .3) (stays (w .1 .inv .0) (left-done _ _ _ _ (w .2 .left))))
       (λ w.
+      let row = c .before .before in
       rw (w .1)
-      (misses-row (row-at (c .before)) _ _ (c .before .before .before .zero-digits .ensures) (c .before .before .loop .inv .0) _ (left-next _ _ _ _ (c .before .loop-test .taken)) (omega arith)
-      (λ h. ⊎-elim (λ v. told _ (v .2 .ensures) (v .1 .ensures) (v .3 .left)) (λ v. absurd (omega arith)) (w .0 .came))))
+      (misses-row (row-at row) _ _ (row .before .before .zero-digits .ensures) (row .before .loop .inv .0) _ (left-next _ _ _ _ (row .loop-test .taken)) (omega arith)
+      (sym (c .before .block-free .ensures) ∙ w .0 .left)))
       (c .if2 .came),
   omega arith,
 )
@@ -219,12 +212,12 @@ returns c = ends (c .before .walk .inv .0) (left-done _ _ _ _ (c .if1 .taken))
 
 returns-2 : tie.Need-returns-2 Inv-loop2 μ-loop2 Inv-loop μ-loop Inv-walk μ-walk
 returns-2 c =
-    let tried = c .before .before .before .before .before in
-    let told2 = told _ (c .before .before .free2 .ensures) (rw (c .before .before .before .before .pow22 .ensures) at (c .before .before .before .tree-block2 .ensures)) (c .before .if5 .taken) in
+    let tried = c .before .before .before .before in
+    let told = sym (rw (c .before .before .before .pow22 .ensures) at (c .before .before .block-free2 .ensures)) ∙ c .before .if4 .taken in
     hits (tried .before .before .before .loop2 .inv .0) (digit-zero _ _ _ _ _ (tried .before .before .loop2-test .taken) (zero tried))
     (c .tree-member .ensures)
     (ap (isFree _) (c .tree-member .ensures)
-    ∙ member-tested (row-at (row-of (inner tried))) _ _ (tried .before .before .loop2-test .taken) (lower (inner tried)) told2)
+    ∙ member-tested (row-at (row-of (inner tried))) _ _ (tried .before .before .loop2-test .taken) (lower (inner tried)) told)
 
 pub more-walk-spec : {M : Type 1} → statement M
 more-walk-spec =
@@ -244,15 +237,13 @@ more-walk-spec =
     zero-digits-requires
     loop-holds
     sub-l
-    tree-block-requires
-    free-requires
+    block-free-requires
     loop2-holds
     digit-requires
     add-tried
     pow2-requires-2
-    add-tree-block
-    tree-block-requires-2
-    free-requires-2
+    add-block-free
+    block-free-requires-2
     tree-member-requires
     add-p
     loop2-less
