@@ -1,14 +1,12 @@
 -- A request's walk over the flags of a state, and the member that it finds: its nodes are a subcube's, with no star in the lowest. Assumes nothing.
 use Prim.Native.Nat.{ℕ, _^_, _<_, _≤_}
-use mathlib.Core.Path.{_≡_, refl, ap, _∙_}
+use mathlib.Core.Path.{_≡_, ap, _∙_}
 use mathlib.Core.List.{List}
 use native.Mathlib.Nat.{lt-of-lt-of-le}
 use lib.Pow.{pow-mono}
-use Rattle.hypercube.specs.Bits.{width}
 use Rattle.hypercube.specs.Labels.{node}
-use Rattle.hypercube.specs.Subcubes.{isFree, subcube, vertices, IsSubcube}
+use Rattle.hypercube.specs.Subcubes.{isFree, subcube, IsSubcube}
 use Rattle.hypercube.specs.Families.{family, choice}
-use Rattle.hypercube.specs.declared.Node.{Node}
 use Rattle.hypercube.specs.declared.Subcube.{Subcube}
 use Rattle.hypercube.specs.declared.Walk.{Walk}
 use Rattle.hypercube.specs.declared.Walk.the-variants.{Found}
@@ -16,18 +14,13 @@ use Rattle.hypercube.proofs.Families.{family-subcubes}
 use Rattle.hypercube.proofs.Moved.{moved-subcube}
 use Rattle.hypercube.proofs.Search.{found-first, first-in}
 use Rattle.labels.specs.Directions.{Directions}
-use Rattle.labels.specs.Flags as labels
-use Rattle.labels.specs.Flags.{byNode, byLabel, flags}
+use Rattle.labels.specs.Flags.{EmptyFrom, byNode, byLabel, flags}
 use Rattle.labels.proofs.Directions.{directions}
 use Rattle.labels.proofs.Flags.{empty-by-node, flags-moved}
 use Rattle.walks.specs.Flagged.{flagged}
 use Rattle.state.specs.declared.State.{State}
-use Rattle.state.specs.declared.Reply.the-variants.{Granted}
-use Rattle.state.specs.States.{withHolders, given}
 use Rattle.state.specs.Valid.{Valid}
-use Rattle.state.specs.Acts.{step, nodeCount, walkOf, grantStep}
-use Rattle.state.specs.Tried.{triedIn}
-use Rattle.state.proofs.Steps.{grant-found}
+use Rattle.state.specs.Acts.{nodeCount, walkOf}
 use Rattle.record.specs.Holders.{LowestOf}
 
 -- ---- n, the map and the flags by node of the state s, as they were read
@@ -37,7 +30,7 @@ module _ (s : State) (v : Valid s) {n : ℕ} (en : n ≡ s .n) {ds : List ℕ} (
   made : fs ≡ byNode (2 ^ s .n) (s .conditions) (s .holders)
   made = ef ∙ ap (λ (m : ℕ). byNode m (s .conditions) (s .holders)) eN
 
-  pub walk-asked : ((n ≤ 10) × Directions ds) × labels.EmptyFrom fs (2 ^ n)
+  pub walk-asked : ((n ≤ 10) × Directions ds) × EmptyFrom fs (2 ^ n)
   walk-asked =
       rw (en, ed, made)
       ((v .small, directions (s .n) (s .map) (v .small) (v .permutes)), empty-by-node (s .n) (s .conditions) (s .holders) (v .small))
@@ -67,10 +60,3 @@ module _ (s : State) (v : Valid s) (k f : ℕ) (h : k ≤ s .n) (c : Subcube) (t
         low-below = below (node (s .map) (c .low .0)) (member .low-below);
         lowest = member .lowest;
       })
-
--- what is told of it
-pub granted : (s : State) (j : ℕ) {w v : Walk} → w ≡ v → {tried : ℕ} → tried ≡ triedIn w → (c : Subcube) (t : ℕ) → w ≡ Found c t
-    → {ds : List ℕ} → ds ≡ s .map → (low : Node) → low .0 ≡ node ds (c .low .0) → {stars : ℕ} → stars ≡ node ds (c .stars)
-    → step (withHolders s (given (s .holders) (vertices width stars (low .0)) j)) (Granted j low stars tried) ≡ grantStep s j v
-granted s j a q c t e ed low el es =
-    grant-found s j _ _ a _ q c t e low (el ∙ ap (λ (ds : List ℕ). node ds (c .low .0)) ed) _ (es ∙ ap (λ (ds : List ℕ). node ds (c .stars)) ed) _ refl

@@ -13,6 +13,7 @@ use Rattle.hypercube.specs.Labels.{node}
 use Rattle.hypercube.specs.Subcubes.{vertices}
 use Rattle.hypercube.specs.declared.Walk.{Walk}
 use Rattle.hypercube.specs.declared.Walk.the-variants.{Found, NoneFree}
+use Rattle.hypercube.proofs.Lists.{length-of}
 use Rattle.hypercube.proofs.Tests.{cases}
 use Rattle.hypercube.proofs.Relabels.{relabel-permutes}
 use Rattle.labels.specs.Relabelling.{faulty}
@@ -27,7 +28,7 @@ use Rattle.state.specs.Acts.{numberOf, step, refuse, nodeCount, holds, anyHeld,
 use Rattle.state.proofs.Valid.{means-valid}
 use Rattle.state.proofs.Steps.{called-1, called-on}
 use Rattle.record.specs.Layout.{encode, decode, validRecord}
-use Rattle.record.proofs.Round.{Sized, length-each, decode-encode, valid-encode}
+use Rattle.record.proofs.Round.{Sized, decode-encode, valid-encode}
 use Rattle.allocator.specs.Carried.{stored, Carried}
 
 pub record Kept (s : State) (t : Step) : Type 0 where
@@ -85,7 +86,7 @@ module _ (s : State) (z : Sized s) where
   kept-grant : (j : ℕ) (w : Walk) → Kept s (grantStep s j w)
   kept-grant j (Found c t) =
       let xs = vertices width (node (s .map) (c .stars)) (node (s .map) (c .low .0)) in
-      kept-holders _ (length-each (λ x. cond (among x xs) j (getD (s .holders) x 0)) 1024) _ refl
+      kept-holders _ (length-of (λ x. cond (among x xs) j (getD (s .holders) x 0)) 0 1024) _ refl
   kept-grant j (NoneFree t) = kept-all _
 
   kept-request : (j k f : ℕ) → Kept s (requestStep s j k f)

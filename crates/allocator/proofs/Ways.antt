@@ -8,11 +8,12 @@ use native.Mathlib.Nat.{lt-of-lt-of-le}
 use native.Mathlib.Omega.{arith}
 use borrow.Author.Tests.{eq-eqb, ne-eqb, leb-true, leb-false}
 use lib.Dec.{leb}
-use lib.ListN.{length, getD, take, drop, length-take, length-drop}
+use lib.ListN.{length, getD}
 use lib.Pow.{pow-mono}
-use lib.Seq.{getD-take, getD-drop}
 use Rattle.hypercube.specs.Lists.{from}
+use Rattle.hypercube.proofs.Lists.{is-each}
 use Rattle.labels.specs.Directions.{Directions}
+use Rattle.labels.specs.Flags.{EmptyFrom}
 use Rattle.labels.specs.Relabelling.{relabelling}
 use Rattle.labels.proofs.Directions.{directions}
 use Rattle.state.specs.declared.State.{State}
@@ -23,10 +24,9 @@ use Rattle.state.specs.declared.Step.{Step}
 use Rattle.state.specs.Valid.{Valid}
 use Rattle.state.specs.Acts.{numberOf, step, refuse, nodeCount}
 use Rattle.state.proofs.Valid.{means-valid}
-use Rattle.record.specs.Holders.{EmptyFrom}
 use Rattle.record.specs.Layout.{encode, decode, headRight, validRecord}
-use Rattle.record.proofs.Round.{sized-decode, record-says, is-each}
-use Rattle.record.proofs.Maximum.{part}
+use Rattle.record.proofs.Round.{sized-decode, record-says}
+use Rattle.record.proofs.Maximum.{part, length-part, part-at}
 use Rattle.allocator.specs.Carried.{Does, Carried}
 
 -- ---- a record that is one
@@ -41,16 +41,16 @@ module _ (r : List ℕ) (v : validRecord r ≡ true) where
   -- the holders of its N nodes are all there are
   pub none-beyond : {N : ℕ} → N ≡ nodeCount (decode r) → N ≤ 1024 → EmptyFrom (decode r .holders) N
   none-beyond e few =
-      record { nodes = sized-decode r .holders; within = few; empty = λ x g l. state-valid r v .no-holders x (rw (← e) g) l }
+      record { entries = sized-decode r .holders; within = few; empty = λ x g l. state-valid r v .no-holders x (rw (← e) g) l }
 
   -- the part that has the conditions
   pub conditions-entries : length (part r 2064 3088) ≡ 1024
-  conditions-entries = simp (length-take, length-drop) (omega (arith, whole .0))
+  conditions-entries = length-part r 2064 3088 (omega (arith, whole .0))
 
   conditions-part : part r 2064 3088 ≡ decode r .conditions
   unfolding decode
   conditions-part =
-      is-each (λ x. getD r (2064 + x) 0) 1024 (part r 2064 3088) conditions-entries (λ x l. getD-take 1024 (drop 2064 r) x 0 l ∙ getD-drop 2064 r x 0)
+      is-each (λ x. getD r (2064 + x) 0) 1024 (part r 2064 3088) conditions-entries (part-at r 2064 3088 (omega (arith, whole .0)))
 
   pub relabelled-part : {n : ℕ} → n ≡ decode r .n → relabelling n (part r 2064 3088) ≡ relabelling (decode r .n) (decode r .conditions)
   relabelled-part e = rw (e, conditions-part)

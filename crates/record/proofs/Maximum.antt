@@ -43,10 +43,10 @@ abbrev pub part : List ℕ → ℕ → ℕ → List ℕ
 part r a e = take (e - a) (drop a r)
 
 module _ (r : List ℕ) (a e : ℕ) (fits : e ≤ length r) where
-  length-part : length (part r a e) ≡ e - a
+  pub length-part : length (part r a e) ≡ e - a
   length-part = simp (length-take, length-drop) (omega arith)
 
-  part-at : (i : ℕ) → i < e - a → getD (part r a e) i 0 ≡ getD r (a + i) 0
+  pub part-at : (i : ℕ) → i < e - a → getD (part r a e) i 0 ≡ getD r (a + i) 0
   part-at i h = rw (getD-take, getD-drop)
 
   pub part-within : (v : ℕ) → (highestOf (part r a e) ≤ v) ↔ ((i : ℕ) → a ≤ i → i < e → getD r i 0 ≤ v)

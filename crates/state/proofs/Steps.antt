@@ -87,10 +87,10 @@ module _ (s : State) (j : ℕ) where
     unfolding releaseStep
     release-11 h = simp (ne-eqb _ _ p, h)
 
-    pub release-done : holds s j ≡ true → (hs : List ℕ) → hs ≡ cleared (s .holders) j
-        → (k : ℕ) → k ≡ countBelow (nodeCount s) (λ x. eqb (getD (s .holders) x 0) j) → step (withHolders s hs) (Done k) ≡ releaseStep s j
+    pub release-done : holds s j ≡ true → (k : ℕ) → k ≡ countBelow (nodeCount s) (λ x. eqb (getD (s .holders) x 0) j)
+        → step (withHolders s (cleared (s .holders) j)) (Done k) ≡ releaseStep s j
     unfolding releaseStep
-    release-done h hs eh k ek = simp (ne-eqb _ _ p, h, eh, ek)
+    release-done h k ek = simp (ne-eqb _ _ p, h, ek)
 
 -- ---- a relabel
 
@@ -138,13 +138,13 @@ module _ (s : State) (j : ℕ) (w v : Walk) (a : w ≡ v) (tried : ℕ) (q : tri
   pub grant-14 : (t : ℕ) → w ≡ NoneFree t → step s (Refused 14 tried) ≡ grantStep s j v
   grant-14 t e = ap (λ (m : ℕ). step s (Refused 14 m)) (q ∙ ap triedIn e) ∙ ap (grantStep s j) (sym e ∙ a)
 
-  pub grant-found : (c : Subcube) (t : ℕ) → w ≡ Found c t → (low : Node) → low .0 ≡ node (s .map) (c .low .0)
-      → (stars : ℕ) → stars ≡ node (s .map) (c .stars)
-      → (hs : List ℕ) → hs ≡ given (s .holders) (vertices width stars (low .0)) j
-      → step (withHolders s hs) (Granted j low stars tried) ≡ grantStep s j v
-  grant-found c t e low el stars es hs eh =
-      let at : low ≡ numbered (node (s .map) (c .low .0)) = ap numbered el in
-      rw (sym a ∙ e, eh, at, es, q ∙ ap triedIn e)
+  -- ds is the map that the member was moved by
+  pub grant-found : (c : Subcube) (t : ℕ) → w ≡ Found c t → {ds : List ℕ} → ds ≡ s .map → (low : Node) → low .0 ≡ node ds (c .low .0)
+      → (stars : ℕ) → stars ≡ node ds (c .stars)
+      → step (withHolders s (given (s .holders) (vertices width stars (low .0)) j)) (Granted j low stars tried) ≡ grantStep s j v
+  grant-found c t e {ds} ed low el stars es =
+      let at : low ≡ numbered (node ds (c .low .0)) = ap numbered el in
+      rw (sym a ∙ e, at, es, ed, q ∙ ap triedIn e)
 
 -- ---- a call on any state
 

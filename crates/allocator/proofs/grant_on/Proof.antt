@@ -3,10 +3,10 @@ use borrow.Author.Needs.{needs}
 use mathlib.Core.Path.{_≡_, refl, sym, _∙_}
 use native.Mathlib.Omega.{arith}
 use Rattle.state.specs.declared.Reply.the-variants.{Refused}
-use Rattle.state.proofs.Steps.{grant-14}
+use Rattle.state.proofs.Steps.{grant-14, grant-found}
 use Rattle.record.specs.Layout.{decode}
 use Rattle.allocator.proofs.Ways.{state-valid, whole, map-loaded, map-directions, told-only, accepts}
-use Rattle.allocator.proofs.Grants.{lowest-of, granted}
+use Rattle.allocator.proofs.Grants.{lowest-of}
 use Rattle.allocator.proofs.grant_on.Statement.{statement}
 use Rattle.allocator.proofs.grant_on.Tie as tie
 
@@ -74,7 +74,8 @@ returns-2 c =
     let tried = told .before .before in
     let load = tried .before .before .before .before in
     accepts _ _ _ refl
-    (granted _ _ (tried .before .walk-of .ensures) (tried .tried-in .ensures) _ _ (told .walk .given .1) (loaded load) _ (first .node-of .ensures) (second .node-of2 .ensures))
+    (grant-found _ _ _ _ (tried .before .walk-of .ensures) _ (tried .tried-in .ensures) _ _ (told .walk .given .1)
+    (loaded load) _ (first .node-of .ensures) _ (second .node-of2 .ensures))
     (gave .give .ensures)
 
 pub grant-on-spec : {M : Type 1} → statement M

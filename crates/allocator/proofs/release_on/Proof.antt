@@ -57,7 +57,7 @@ returns-3 c =
     let q = at .count-held .ensures in
     accepts _ _ _ refl
     (release-done _ _ (test .if1 .left) (holds-some (decode (a .rec .now)) (a .job) _ _ e q (tested .if2 .left))
-    _ refl _ (counted (decode (a .rec .now)) (a .job) _ _ e q))
+    _ (counted (decode (a .rec .now)) (a .job) _ _ e q))
     (stored .clear .ensures)
 
 pub release-on-spec : {M : Type 1} → statement M
