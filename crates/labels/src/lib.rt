@@ -2,6 +2,7 @@
 // A label is made of a node number, and a node number of a label, here alone and by the map.
 use hypercube::Label;
 use hypercube::Node;
+use hypercube::pow2;
 ghost use mathlib.Core.Path.{_≡_};
 ghost use mathlib.Core.Bool.{true};
 ghost use mathlib.Core.List.{_++_};
@@ -13,14 +14,6 @@ ghost use Rattle.hypercube.specs.Labels.{label, node, differing, size, assign};
 ghost use Rattle.labels.specs.Directions.{Directions, Own};
 ghost use Rattle.labels.specs.Flags.{nodes, flagOf, EmptyFrom, byLabel};
 ghost use Rattle.labels.specs.Relabelling.{faulty, inMask, relabelling};
-
-// 2 to the e. As a loop's end, `1 << e` would keep the compiler from counting the turns and so from making vector code.
-fn pow2(e: u16) -> u16
-    requires { ⌜ e ≤ 10 ⌝ }
-    ensures { λ r. ⌜ r ≡ 2 ^ e ⌝ }
-{
-    1024 >> (10 - e)
-}
 
 // The bit of x in direction d.
 fn bit_in(x: u16, d: u8) -> u16

@@ -3,6 +3,7 @@
 use hypercube::Label;
 use hypercube::Subcube;
 use hypercube::Walk;
+use hypercube::pow2;
 ghost use mathlib.Core.Path.{_≡_};
 ghost use mathlib.Core.Bool.{true};
 ghost use Prim.Native.Nat.{_+_, _-_, _*_, _%_, _^_, _≤_, _<_, min};
@@ -16,14 +17,6 @@ ghost use Rattle.walks.specs.Inside.{Inside, Testable, Highest};
 ghost use Rattle.walks.specs.Each.{eachMember, eachCount, each};
 ghost use Rattle.walks.specs.Blocks.{treeBlock, zeroDigits};
 ghost use Rattle.walks.specs.Stands.{Stands};
-
-// 2 to the e.
-fn pow2(e: u16) -> u16
-    requires { ⌜ e < 16 ⌝ }
-    ensures { λ r. ⌜ r ≡ 2 ^ e ⌝ }
-{
-    1 << e
-}
 
 // Digit p of x, from 0.
 fn digit(x: u16, p: u16) -> u16
