@@ -26,7 +26,7 @@ impl Ratios {
         println!("\n{title}");
         println!("{:32} {:>3} {:>10} {:>10} {:>9}", "call", "n", "proved", "second", "ratio");
         for row in rows {
-            let times = [time(&row, proved::call), time(&row, reference::call)];
+            let times = time(&row, [proved::call, reference::call]);
             self.print(&row.name, row.n, "ns", times);
         }
     }
@@ -48,9 +48,9 @@ fn main() -> std::io::Result<()> {
     ratios.rows("on a relabelled cube", [4, 7, 10].into_iter().map(rows::relabelled));
     ratios.rows("nothing free", rows::worst(10));
     ratios.rows("how cost grows with n", (0..=10).flat_map(rows::grown));
-    println!("\na log of a million frames");
     let programs = std::env::args().nth(1).zip(std::env::args().nth(2));
     if let Some((ours, theirs)) = programs {
+        println!("\na log of a million frames");
         for n in [4, 7, 10] {
             let times = logs::time(22 + n, 1_000_000, [Path::new(&ours), Path::new(&theirs)])?;
             ratios.print("log program", n as u32, "ms", times.map(|s| s * 1000.0));

@@ -174,7 +174,7 @@ pub fn flag_of(condition: u8, holder: u16) -> u8
 }
 
 // Whether each direction maps to itself: each label is then its node's number.
-fn is_identity(map: &[u8; 10]) -> bool
+pub fn is_identity(map: &[u8; 10]) -> bool
     ensures { λ r. ⌜ (r ≡ true → Own (now (map .entry))) ⌝ }
 {
     let mut at: usize = 0;

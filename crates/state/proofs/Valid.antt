@@ -13,6 +13,7 @@ use lib.Pow.{pow-mono}
 use Rattle.hypercube.specs.Bits.{width}
 use Rattle.hypercube.specs.Lists.{Some}
 use Rattle.hypercube.specs.Labels.{Permutes}
+use Rattle.labels.specs.Directions.{Own}
 use Rattle.hypercube.proofs.Bits.{lt-or}
 use Rattle.hypercube.proofs.Tests.{Means, means-iff, means-eq, means-le, means-not, means-and, means-or}
 use Rattle.state.specs.declared.State.{State}
@@ -102,6 +103,14 @@ module _ (ds : List ℕ) (n : ℕ) (small : n ≤ 10) (long : length ds ≡ 10) 
   unfolding mapRight
   means-map =
       means-iff (means-each (entryRight ds n) (Entry ds n) width (λ i l. means-entry ds n i)) (permutes-of, entries-of)
+
+-- the identity is right for every n
+pub own-right : (ds : List ℕ) (n : ℕ) → Own ds → true ≡ mapRight ds n
+unfolding mapRight
+own-right ds n own =
+    sym
+    (means-each (entryRight ds n) (Entry ds n) width (λ i l. means-entry ds n i) .shows
+    (λ i l. (λ b. (omega (arith, own i l), (omega (arith, own i l), λ j k e. omega (arith, own i l, own j (omega arith)))), λ g. own i l)))
 
 -- ---- the nodes
 

@@ -1,39 +1,21 @@
--- `state::map_right` meets its contract. The loop's invariant: whether each entry passed is right. Assumes nothing.
-use Prim.Native.Nat.{_-_, _≤_}
-use mathlib.Core.Path.{_≡_, refl}
-use native.Mathlib.Omega.{arith}
-use Rattle.state.specs.Valid.{allBelow, entryRight, mapRight}
-use Rattle.state.proofs.Below.{all-next, all-ends}
+-- `state::map_right` meets its contract. Assumes nothing.
+use borrow.Author.Needs.{needs}
+use mathlib.Core.Path.{_∙_}
+use Rattle.state.proofs.Valid.{own-right}
 use Rattle.state.proofs.map_right.Statement.{statement}
 use Rattle.state.proofs.map_right.Tie as tie
 
-abbrev Inv-loop : tie.InvT-loop
-Inv-loop map n right₀ i₀ right i = (right ≡ allBelow (entryRight map n) i) × (i ≤ 10)
+is-identity-requires : tie.Need-is-identity-requires
+is-identity-requires c κs = search needs
 
-abbrev μ-loop : tie.MeasureT-loop
-μ-loop map n right₀ i₀ right i = 10 - i
+entries-right-requires : tie.Need-entries-right-requires
+entries-right-requires c κs = search needs
 
-loop-holds : tie.Need-loop-holds Inv-loop μ-loop
-unfolding allBelow
-loop-holds c = (refl, omega arith)
+returns : tie.Need-returns
+returns c = c .if1 .taken ∙ own-right _ _ (c .before .is-identity .ensures (c .if1 .taken))
 
-entry-right-requires : tie.Need-entry-right-requires Inv-loop μ-loop
-entry-right-requires c κs = omega arith
-
-add-i : tie.Need-add-i Inv-loop μ-loop
-add-i c = omega arith
-
-loop-less : tie.Need-loop-less Inv-loop μ-loop
-loop-less c = omega arith
-
-loop-again : tie.Need-loop-again Inv-loop μ-loop
-loop-again c = (rw (c .entry-right .ensures) (all-next _ _ _ (c .before .before .loop .inv .0)), omega arith)
-
-returns : tie.Need-returns Inv-loop μ-loop
-unfolding mapRight
-returns c = all-ends _ 10 _ _ (c .before .loop .inv .0) (omega arith) (omega arith)
+returns-2 : tie.Need-returns-2
+returns-2 c = search needs
 
 pub map-right-spec : {M : Type 1} → statement M
-map-right-spec =
-    tie.close
-    (tie.spec Inv-loop μ-loop loop-holds entry-right-requires add-i loop-less loop-again returns)
+map-right-spec = tie.close (tie.spec is-identity-requires entries-right-requires returns returns-2)
