@@ -48,12 +48,12 @@ pub struct Step {
     pub reply: Reply,
 }
 
-// How many nodes a cube of dimension n has. As a loop's end, `1 << n` would keep the compiler from making vector code.
+// How many nodes a cube of dimension n has.
 pub fn node_count(n: u8) -> usize
     requires { ⌜ n ≤ 10 ⌝ }
     ensures { λ r. ⌜ (r ≡ 2 ^ n) × (r ≤ 1024) ⌝ }
 {
-    1024 >> (10 - n)
+    hypercube::pow2(n as u16) as usize
 }
 
 // Whether entry i of the map is none of those before it.
