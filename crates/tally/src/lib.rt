@@ -67,7 +67,10 @@ impl Tally {
             } => {
                 t.granted = one_more(self.granted);
             }
-            Outcome::Refused { number: _, tried: _ } => {
+            Outcome::Refused {
+                number: _,
+                tried: _,
+            } => {
                 t.refused = one_more(self.refused);
             }
         }
