@@ -20,7 +20,7 @@ pub word-drop : (w : List ℕ) (at : ℕ) → word (drop at w) 0 ≡ word w at
 unfolding word
 word-drop w at = let z : at + 0 ≡ at = omega arith in rw (getD-drop, getD-drop, z)
 
-word-append : (l more : List ℕ) → 1 < length l → word (l ++ more) 0 ≡ word l 0
+pub word-append : (l more : List ℕ) → 1 < length l → word (l ++ more) 0 ≡ word l 0
 unfolding word
 word-append l more h = rw (List·getD-append l more 0 0 (omega arith), List·getD-append l more 0 1 h)
 
