@@ -5,8 +5,9 @@ use mathlib.Core.List.{List, [], _∷_, _++_}
 use native.Mathlib.Omega.{arith}
 use lib.ListN.{length, length-append}
 use Rattle.tally.specs.declared.Outcome.{Outcome}
+use Rattle.tally.specs.declared.Tally.{Tally}
 use Rattle.tally.specs.declared.Outcome.the-variants.{Setup, Done, Granted, Refused}
-use Rattle.lines.specs.Text.{ascii, decimal, item, lastItem, said, lineOf}
+use Rattle.lines.specs.Text.{ascii, decimal, item, lastItem, said, lineOf, totalsOf}
 use Rattle.lines.proofs.Digits.{decimal-short}
 
 item-length : (text : List ℕ) (x : ℕ) → length (item text x) ≤ length text + 10
@@ -27,3 +28,10 @@ said-length (Refused m t) = simp length-append (omega (arith, item-length (ascii
 pub line-length : (place : ℕ) (o : Outcome) → length (lineOf place o) ≤ 64
 unfolding lineOf
 line-length place o = rw length-append (omega (arith, decimal-short place, said-length o))
+
+pub totals-length : (t : Tally) → length (totalsOf t) ≤ 88
+unfolding totalsOf
+totals-length t =
+    simp length-append
+    (omega
+    (arith, item-length (ascii "total ") (t .total), item-length (ascii " setup ") (t .setup), item-length (ascii " done ") (t .done), item-length (ascii " granted ") (t .granted), last-length (ascii " refused ") (t .refused)))

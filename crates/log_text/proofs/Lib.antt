@@ -2,3 +2,4 @@
 pub mod Stays
 pub mod Parts
 pub mod Running
+pub mod Fronts
