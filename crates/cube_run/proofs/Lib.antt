@@ -1,0 +1,2 @@
+-- The places of a session stay in its buffers.
+pub mod Keeps

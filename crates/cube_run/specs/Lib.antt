@@ -1,0 +1,2 @@
+-- What the log program keeps.
+pub mod Ready

@@ -1,0 +1,44 @@
+-- The outcome of a frame, and the record after it. Document 01, "Log program".
+use Prim.Native.Nat.{ℕ}
+use mathlib.Core.Path.{_≡_}
+use mathlib.Core.Bool.{cond, not, _||_}
+use mathlib.Core.List.{List}
+use lib.Dec.{eqb, ltb}
+use lib.ListN.{length, replicate}
+use Rattle.history.specs.Calls.{word}
+use Rattle.tally.specs.declared.Outcome.{Outcome}
+use Rattle.tally.specs.declared.Outcome.the-variants.{Done, Granted, Refused}
+use Rattle.cube.specs.Called.{setupNumber, setupRecord, callNumber, callRecord, callReply}
+
+-- "first a set-up (0x0301, length 6, field n)"; "A first frame that isn't a right set-up is refused with 3, 4, 5 or 7", judged as a call's causes are
+unfoldable pub firstNumber : List ℕ → List ℕ → ℕ
+firstNumber r f =
+    cond (ltb (length f) 4 || not (eqb (word f 0) (length f))) 3
+    (cond (not (eqb (word f 2) 0x0301)) 4
+    (cond (not (eqb (length f) 6)) 5 (setupNumber r (word f 4))))
+
+unfoldable pub firstRecord : List ℕ → List ℕ → List ℕ
+firstRecord r f = cond (eqb (firstNumber r f) 0) (setupRecord r (word f 4)) r
+
+-- "Fields are the reply's, in order": of the number that a call returned and its reply
+unfoldable pub readReply : ℕ → List ℕ → Outcome
+readReply number p =
+    cond (eqb number 0)
+    (cond (eqb (word p 2) 0x8001) (Granted (word p 4) (word p 6) (word p 8) (word p 10)) (Done (word p 4)))
+    (Refused number (word p 6))
+
+-- the reply buffer of every later frame
+abbrev pub zeros : List ℕ
+zeros = replicate 12 0
+
+-- a later frame is a call, to which a set-up is no known kind: "a later set-up is refused 4"
+unfoldable pub laterOutcome : List ℕ → List ℕ → Outcome
+laterOutcome r f = readReply (callNumber r f zeros) (callReply r f zeros)
+
+unfoldable pub laterRecord : List ℕ → List ℕ → List ℕ
+laterRecord r f = callRecord r f zeros
+
+-- the contract: the outcome, and the record's bytes afterwards
+pub record Later (r f : List ℕ) (told : Outcome) (r′ : List ℕ) : Type 0 where
+  pub outcome : told ≡ laterOutcome r f
+  pub «record» : r′ ≡ laterRecord r f

@@ -1,0 +1,3 @@
+-- The text of a log, and a part of it.
+pub mod Text
+pub mod Moves

@@ -1,0 +1,2 @@
+-- The counts of a log.
+pub mod Counts
