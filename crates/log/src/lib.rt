@@ -43,14 +43,6 @@ const SETUP: u16 = 0x0301;
 
 const GRANTED: u16 = 0x8001;
 
-// The two bytes from place `at` on, little-endian.
-fn word(bytes: &[u8], at: usize) -> u16
-    requires { ⌜ at + 1 < length (now bytes) ⌝ }
-    ensures { λ r. ⌜ r ≡ word (now (bytes .entry)) at ⌝ }
-{
-    record::word(bytes, at)
-}
-
 // What is there is no whole frame.
 fn unfinished(last: bool) -> Next
     ensures { λ r. ⌜ r ≡ cond last Broken More ⌝ }
@@ -71,7 +63,7 @@ pub fn next_frame(window: &[u8], c: Cursor, last: bool) -> Next
     if left < 2 {
         return unfinished(last);
     }
-    let size = word(window, at) as usize;
+    let size = record::word(window, at) as usize;
     if size < 4 {
         return Next::Broken;
     }
@@ -89,16 +81,16 @@ fn set_up(rec: &mut [u8], frame: &[u8]) -> u32
     if len < 4 {
         return 3;
     }
-    if word(frame, 0) as usize != len {
+    if record::word(frame, 0) as usize != len {
         return 3;
     }
-    if word(frame, 2) != SETUP {
+    if record::word(frame, 2) != SETUP {
         return 4;
     }
     if len != 6 {
         return 5;
     }
-    cube::cube_setup(rec, word(frame, 4) as u32)
+    cube::cube_setup(rec, record::word(frame, 4) as u32)
 }
 
 // The outcome of a call, from the number that it returned and the reply.
@@ -109,18 +101,18 @@ fn read_reply(number: u32, reply: &[u8]) -> Outcome
     if number != 0 {
         return Outcome::Refused {
             number,
-            tried: word(reply, 6),
+            tried: record::word(reply, 6),
         };
     }
-    if word(reply, 2) == GRANTED {
+    if record::word(reply, 2) == GRANTED {
         return Outcome::Granted {
-            job: word(reply, 4),
-            low: word(reply, 6),
-            stars: word(reply, 8),
-            tried: word(reply, 10),
+            job: record::word(reply, 4),
+            low: record::word(reply, 6),
+            stars: record::word(reply, 8),
+            tried: record::word(reply, 10),
         };
     }
-    Outcome::Done(word(reply, 4))
+    Outcome::Done(record::word(reply, 4))
 }
 
 // A later frame of a log: a call with a reply buffer of 12 zeros.
@@ -140,7 +132,7 @@ fn on_first(rec: &mut [u8], frame: &[u8], end: Cursor) -> Step
     if number != 0 {
         return Step::Last(Outcome::Refused { number, tried: 0 });
     }
-    Step::Line(Outcome::Setup(word(frame, 4)), end)
+    Step::Line(Outcome::Setup(record::word(frame, 4)), end)
 }
 
 // A frame that ends where the cursor stands, with `lines` lines before it.
