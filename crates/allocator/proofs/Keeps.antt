@@ -24,7 +24,8 @@ use Rattle.state.specs.declared.Reply.{Reply}
 use Rattle.state.specs.declared.Step.{Step}
 use Rattle.state.specs.States.{withCondition, withHolders, cleared}
 use Rattle.state.specs.Valid.{valid}
-use Rattle.state.specs.Acts.{numberOf, step, refuse, nodeCount, holds, anyHeld, goodStep, faultStep, repairedStep, relabelStep, walkOf, grantStep, requestStep, releaseStep, acted, called}
+use Rattle.state.specs.Acts.{numberOf, step, refuse, nodeCount, holds, anyHeld, acted, called}
+use Rattle.state.specs.Acts.{goodStep, faultStep, repairedStep, relabelStep, walkOf, grantStep, requestStep, releaseStep}
 use Rattle.state.proofs.Valid.{means-valid}
 use Rattle.state.proofs.Steps.{called-1, called-on}
 use Rattle.record.specs.Layout.{encode, decode, validRecord}

@@ -95,7 +95,8 @@ pub by-step : (r : List ℕ) {t u : Step} → t ≡ u → {told : Reply} {r′ :
 by-step r e h = rw (← e) h
 
 -- an accepted call leaves the record of the state that it makes
-pub accepts : (r : List ℕ) (s : State) (told : Reply) → numberOf told ≡ 0 → {t : Step} → step s told ≡ t → {r′ : List ℕ} → r′ ≡ encode s → Does r t told r′
+pub accepts : (r : List ℕ) (s : State) (told : Reply) → numberOf told ≡ 0 → {t : Step} → step s told ≡ t → {r′ : List ℕ} → r′ ≡ encode s
+    → Does r t told r′
 accepts r s told z {t} e h = record {
   replied = ap (λ (u : Step). u .reply) e;
   left = rw (← e, eq-eqb (numberOf told) 0 z) h;

@@ -7,7 +7,7 @@ use lib.Dec.{eqb}
 use Rattle.state.specs.declared.Call.{Call}
 use Rattle.state.specs.declared.Reply.{Reply}
 use Rattle.state.specs.declared.Step.{Step}
-use Rattle.state.specs.Acts.{numberOf, acted}
+use Rattle.state.specs.Acts.{numberOf, walkOf, grantStep, acted}
 use Rattle.record.specs.Layout.{encode, decode}
 
 -- the record r after the step t
@@ -18,6 +18,10 @@ stored r t = cond (eqb (numberOf (t .reply)) 0) (encode (t .state)) r
 pub record Does (r : List ℕ) (t : Step) (told : Reply) (r′ : List ℕ) : Type 0 where
   pub replied : told ≡ t .reply
   pub left : r′ ≡ stored r t
+
+-- a request that meets no cause before 14
+abbrev pub Grants : List ℕ → ℕ → ℕ → ℕ → Reply → List ℕ → Type 0
+Grants r j k f told r′ = Does r (grantStep (decode r) j (walkOf (decode r) k f)) told r′
 
 abbrev pub Carried : List ℕ → Call → Reply → List ℕ → Type 0
 Carried r c told r′ = Does r (acted (decode r) c) told r′

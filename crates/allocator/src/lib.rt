@@ -12,9 +12,9 @@ ghost use mathlib.Core.Bool.{true};
 ghost use Prim.Native.Nat.{_^_, _≤_};
 ghost use lib.Dec.{leb};
 ghost use Rattle.state.specs.declared.Call.the-variants.{Good, Fault, Repaired, Relabel, Request, Release};
-ghost use Rattle.state.specs.Acts.{refuse, walkOf, grantStep, called};
+ghost use Rattle.state.specs.Acts.{walkOf, called};
 ghost use Rattle.record.specs.Layout.{validRecord, decode};
-ghost use Rattle.allocator.specs.Carried.{Does, Carried};
+ghost use Rattle.allocator.specs.Carried.{Grants, Carried};
 ghost use Rattle.state.specs.Tried.{triedIn};
 
 // How many nodes the cube has.
@@ -115,7 +115,7 @@ fn walk_of(rec: &[u8], map: &[u8; 10], k: u8, strategy: u8) -> Walk
 // The grant of the first free member, by its lowest node and its star bits: "star bits too, are given in node numbers".
 fn grant_on(rec: &mut [u8], job: u16, k: u8, strategy: u8) -> Reply
     requires { ⌜ (validRecord (now rec) ≡ true) × (k ≤ decode (now rec) .n) ⌝ }
-    ensures { λ r. ⌜ Does (now (rec .entry)) (grantStep (decode (now (rec .entry))) job (walkOf (decode (now (rec .entry))) k strategy)) r (now (rec .exit)) ⌝ }
+    ensures { λ r. ⌜ Grants (now (rec .entry)) job k strategy r (now (rec .exit)) ⌝ }
 {
     let map = record::load_map(rec);
     let walk = walk_of(rec, &map, k, strategy);

@@ -31,7 +31,8 @@ returns c =
     let tested = c .before .before in
     let stored = tested .before .before .before in
     let start = stored .before .before in
-    by-record-1 _ (sized start) (start .args .c) (stored .store .ensures) (sym (tested .is-valid .ensures) ∙ not-true _ (c .before .if1 .taken)) (c .refused .ensures)
+    by-record-1 _ (sized start) (start .args .c) (stored .store .ensures)
+    (sym (tested .is-valid .ensures) ∙ not-true _ (c .before .if1 .taken)) (c .refused .ensures)
 
 slice-aggregate-call-record : tie.Need-slice-aggregate-call-record
 slice-aggregate-call-record c = search needs

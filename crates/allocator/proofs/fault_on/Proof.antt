@@ -1,8 +1,13 @@
 -- `allocator::fault_on` meets its contract. Assumes nothing.
 use borrow.Author.Needs.{needs}
-use mathlib.Core.Path.{refl}
+use Prim.Native.Nat.{ℕ}
+use mathlib.Core.Path.{refl, ap, _∙_}
 use native.Mathlib.Omega.{arith}
+use Rattle.state.specs.declared.Reply.the-variants.{Done}
+use Rattle.state.specs.States.{withCondition}
+use Rattle.state.specs.Acts.{step}
 use Rattle.state.proofs.Steps.{fault-8, fault-done}
+use Rattle.record.specs.Layout.{decode}
 use Rattle.allocator.proofs.Ways.{outside, inside, node-asked, node-written, refuses, accepts}
 use Rattle.allocator.proofs.fault_on.Statement.{statement}
 use Rattle.allocator.proofs.fault_on.Tie as tie
@@ -38,8 +43,11 @@ returns-2 : tie.Need-returns-2
 returns-2 c =
     let read = c .before .before .before .before in
     let test = read .before .before in
-    rw (read .holder-at .ensures)
-    (accepts _ _ _ refl (fault-done _ _ (inside _ _ (test .before .beyond .ensures) (test .if1 .left))) (c .before .before .set-condition .ensures))
+    let a = test .before .before .before .before .args in
+    accepts _ _ _ refl
+    (ap (λ (h : ℕ). step (withCondition (decode (a .rec .now)) (a .x .0) 2) (Done h)) (read .holder-at .ensures)
+    ∙ fault-done _ _ (inside _ _ (test .before .beyond .ensures) (test .if1 .left)))
+    (c .before .before .set-condition .ensures)
 
 pub fault-on-spec : {M : Type 1} → statement M
 fault-on-spec =

@@ -52,7 +52,9 @@ returns-3 : tie.Need-returns-3
 returns-3 c =
     let second = c .before .before .before .before in
     let test = second .before .before .before in
-    accepts _ _ _ refl (good-done _ _ (inside _ _ (test .before .beyond .ensures) (test .if1 .left)) (λ e. second .if2 .left (second .before .condition-at .ensures ∙ e)))
+    accepts _ _ _ refl
+    (good-done _ _ (inside _ _ (test .before .beyond .ensures) (test .if1 .left))
+    (λ e. second .if2 .left (second .before .condition-at .ensures ∙ e)))
     (c .before .before .set-condition .ensures)
 
 pub good-on-spec : {M : Type 1} → statement M

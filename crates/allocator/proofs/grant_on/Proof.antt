@@ -37,7 +37,8 @@ same-length c = search needs
 returns : tie.Need-returns
 returns c =
     let at = c .before .before in
-    told-only _ _ (Refused 14 _) (λ z. absurd (omega arith)) (grant-14 _ _ _ _ (at .before .walk-of .ensures) _ (at .tried-in .ensures) _ (c .enum-told .given .1))
+    told-only _ _ (Refused 14 _) (λ z. absurd (omega arith))
+    (grant-14 _ _ _ _ (at .before .walk-of .ensures) _ (at .tried-in .ensures) _ (c .enum-told .given .1))
 
 node-of-requires : tie.Need-node-of-requires
 node-of-requires c κs =
@@ -58,7 +59,8 @@ give-requires c κs =
     let load = walk .before .before .before in
     let start = load .before .before .before in (
       whole _ (start .pre .0),
-      lowest-of _ (state-valid _ (start .pre .0)) (start .args .k) (start .args .strategy) (start .pre .1) _ _ (sym (walk .walk-of .ensures) ∙ told .walk .given .1)
+      lowest-of _ (state-valid _ (start .pre .0)) (start .args .k) (start .args .strategy) (start .pre .1) _ _
+          (sym (walk .walk-of .ensures) ∙ told .walk .given .1)
           (loaded load) (first .node-of .ensures) (second .node-of2 .ensures),
     )
 

@@ -24,7 +24,8 @@ returns : tie.Need-returns
 returns c =
     let at = c .before .before in
     refuses _ 13 (λ z. absurd (omega arith))
-    (relabel-13 (decode (at .before .before .before .before .args .rec .now)) _ (at .before .nodes-of .ensures .0) _ (at .any-held .ensures) (c .before .if1 .taken))
+    (relabel-13 (decode (at .before .before .before .before .args .rec .now)) _ (at .before .nodes-of .ensures .0)
+    _ (at .any-held .ensures) (c .before .if1 .taken))
     (c .refused .ensures)
 
 dimension-requires : tie.Need-dimension-requires

@@ -33,7 +33,8 @@ returns-2 c =
     let test = count .before .before in
     let a = test .before .before .args in
     refuses _ 11 (λ z. absurd (omega arith))
-    (release-11 _ _ (test .if1 .left) (holds-none (decode (a .rec .now)) (a .job) _ _ (count .nodes-of .ensures .0) (at .count-held .ensures) (c .before .if2 .taken)))
+    (release-11 _ _ (test .if1 .left)
+    (holds-none (decode (a .rec .now)) (a .job) _ _ (count .nodes-of .ensures .0) (at .count-held .ensures) (c .before .if2 .taken)))
     (c .refused2 .ensures)
 
 clear-requires : tie.Need-clear-requires

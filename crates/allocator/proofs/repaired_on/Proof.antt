@@ -37,7 +37,8 @@ returns-2 c =
     let second = c .before in
     let test = second .before .before .before in
     refuses _ 12 (λ z. absurd (omega arith))
-    (repaired-12 _ _ (inside _ _ (test .before .beyond .ensures) (test .if1 .left)) (λ e. second .if2 .taken (second .before .condition-at .ensures ∙ e)))
+    (repaired-12 _ _ (inside _ _ (test .before .beyond .ensures) (test .if1 .left))
+    (λ e. second .if2 .taken (second .before .condition-at .ensures ∙ e)))
     (c .refused2 .ensures)
 
 set-condition-requires : tie.Need-set-condition-requires
@@ -52,7 +53,8 @@ returns-3 : tie.Need-returns-3
 returns-3 c =
     let second = c .before .before .before .before in
     let test = second .before .before .before in
-    accepts _ _ _ refl (repaired-done _ _ (inside _ _ (test .before .beyond .ensures) (test .if1 .left)) (sym (second .before .condition-at .ensures) ∙ second .if2 .left))
+    accepts _ _ _ refl
+    (repaired-done _ _ (inside _ _ (test .before .beyond .ensures) (test .if1 .left)) (sym (second .before .condition-at .ensures) ∙ second .if2 .left))
     (c .before .before .set-condition .ensures)
 
 pub repaired-on-spec : {M : Type 1} → statement M

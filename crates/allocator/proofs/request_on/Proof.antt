@@ -25,7 +25,8 @@ same-length c = search needs
 returns-2 : tie.Need-returns-2
 returns-2 c =
     let read = c .before .before in
-    refuses _ 7 (λ z. absurd (omega arith)) (request-7 _ _ _ _ (read .before .before .if1 .left) (omega (arith, read .dimension .ensures))) (c .refused2 .ensures)
+    refuses _ 7 (λ z. absurd (omega arith))
+    (request-7 _ _ _ _ (read .before .before .if1 .left) (omega (arith, read .dimension .ensures))) (c .refused2 .ensures)
 
 refused-requires-3 : tie.Need-refused-requires-3
 refused-requires-3 c κs = search needs
@@ -36,7 +37,8 @@ same-length-2 c = search needs
 returns-3 : tie.Need-returns-3
 returns-3 c =
     let read = c .before .before .before in
-    refuses _ 9 (λ z. absurd (omega arith)) (request-9 _ _ _ _ (read .before .before .if1 .left) (omega (arith, read .dimension .ensures)) (omega arith)) (c .refused3 .ensures)
+    refuses _ 9 (λ z. absurd (omega arith))
+    (request-9 _ _ _ _ (read .before .before .if1 .left) (omega (arith, read .dimension .ensures)) (omega arith)) (c .refused3 .ensures)
 
 nodes-of-requires : tie.Need-nodes-of-requires
 nodes-of-requires c κs = search needs

@@ -25,7 +25,8 @@ flags-by-label-requires c κs =
     let count = made .before in
     let read = count .before in
     let start = read .before .before in
-    walk-asked (decode (start .args .rec .now)) (state-valid _ (start .pre .0)) (read .dimension .ensures) (start .pre .1 .0) (count .nodes-of .ensures .0)
+    walk-asked (decode (start .args .rec .now)) (state-valid _ (start .pre .0)) (read .dimension .ensures)
+    (start .pre .1 .0) (count .nodes-of .ensures .0)
     (made .flags-by-node .ensures)
 
 choose-requires : tie.Need-choose-requires
@@ -42,7 +43,8 @@ returns c =
     let count = made .before in
     let read = count .before in
     let start = read .before .before in
-    walked (decode (start .args .rec .now)) (state-valid _ (start .pre .0)) (read .dimension .ensures) (start .pre .1 .0) (count .nodes-of .ensures .0)
+    walked (decode (start .args .rec .now)) (state-valid _ (start .pre .0)) (read .dimension .ensures)
+    (start .pre .1 .0) (count .nodes-of .ensures .0)
     (made .flags-by-node .ensures) (moved .flags-by-label .ensures) (start .args .k) (start .args .strategy) (c .choose .ensures)
 
 pub walk-of-spec : {M : Type 1} → statement M

@@ -1,4 +1,4 @@
--- `record::state_right` meets its contract: the allocator's laws, at the state that the record says. Assumes nothing.
+-- `record::state_right` meets its contract: the laws of a state, at the one that the record says. Assumes nothing.
 use Prim.Native.Nat.{ℕ, _^_}
 use borrow.Author.Needs.{needs}
 use borrow.Author.Tests.{not-true, not-false}
