@@ -21,7 +21,7 @@ use Rattle.walks.specs.Flagged.{flagged}
 use Rattle.state.specs.declared.State.{State}
 use Rattle.state.specs.Valid.{Valid}
 use Rattle.state.specs.Acts.{nodeCount, walkOf}
-use Rattle.record.specs.Holders.{LowestOf}
+use Rattle.nodes.specs.Holders.{LowestOf}
 
 -- ---- n, the map and the flags by node of the state s, as they were read
 

@@ -41,10 +41,10 @@ fn good_on(rec: &mut [u8], x: Node) -> Reply
     if beyond(rec, x) {
         return refused(8);
     }
-    if record::condition_at(rec, x) == 2 {
+    if nodes::condition_at(rec, x) == 2 {
         return refused(12);
     }
-    record::set_condition(rec, x, 1);
+    nodes::set_condition(rec, x, 1);
     Reply::Done(0)
 }
 
@@ -56,8 +56,8 @@ fn fault_on(rec: &mut [u8], x: Node) -> Reply
     if beyond(rec, x) {
         return refused(8);
     }
-    let holder = record::holder_at(rec, x);
-    record::set_condition(rec, x, 2);
+    let holder = nodes::holder_at(rec, x);
+    nodes::set_condition(rec, x, 2);
     Reply::Done(holder)
 }
 
@@ -69,10 +69,10 @@ fn repaired_on(rec: &mut [u8], x: Node) -> Reply
     if beyond(rec, x) {
         return refused(8);
     }
-    if record::condition_at(rec, x) != 2 {
+    if nodes::condition_at(rec, x) != 2 {
         return refused(12);
     }
-    record::set_condition(rec, x, 0);
+    nodes::set_condition(rec, x, 0);
     Reply::Done(0)
 }
 
@@ -81,13 +81,13 @@ fn relabel_on(rec: &mut [u8]) -> Reply
     requires { ⌜ validRecord (now rec) ≡ true ⌝ }
     ensures { λ r. ⌜ Carried (now (rec .entry)) Relabel r (now (rec .exit)) ⌝ }
 {
-    if record::any_held(rec, nodes_of(rec)) {
+    if nodes::any_held(rec, nodes_of(rec)) {
         return refused(13);
     }
     let n = record::dimension(rec);
     let new = labels::relabel(n as u16, &rec[2064..3088]);
     let map = new.map;
-    record::set_map(rec, &map);
+    nodes::set_map(rec, &map);
     Reply::Done(new.size)
 }
 
@@ -107,7 +107,7 @@ fn walk_of(rec: &[u8], map: &[u8; 10], k: u8, strategy: u8) -> Walk
     ensures { λ r. ⌜ r ≡ walkOf (decode (now (rec .entry))) k strategy ⌝ }
 {
     let n = record::dimension(rec) as u16;
-    let by_node = record::flags_by_node(rec, nodes_of(rec));
+    let by_node = nodes::flags_by_node(rec, nodes_of(rec));
     let flags = labels::flags_by_label(n, map, &by_node);
     walks::choose(&flags, strategy, n, k as u16)
 }
@@ -125,7 +125,7 @@ fn grant_on(rec: &mut [u8], job: u16, k: u8, strategy: u8) -> Reply
     };
     let low = labels::node_of(&map, c.low);
     let stars = labels::node_of(&map, Label(c.stars)).0;
-    record::give(rec, low, stars, job);
+    nodes::give(rec, low, stars, job);
     Reply::Granted {
         job,
         low,
@@ -149,7 +149,7 @@ fn request_on(rec: &mut [u8], job: u16, k: u8, strategy: u8) -> Reply
     if 3 < strategy {
         return refused(9);
     }
-    if record::count_held(rec, nodes_of(rec), job) != 0 {
+    if nodes::count_held(rec, nodes_of(rec), job) != 0 {
         return refused(10);
     }
     grant_on(rec, job, k, strategy)
@@ -164,11 +164,11 @@ fn release_on(rec: &mut [u8], job: u16) -> Reply
         return refused(6);
     }
     let size = nodes_of(rec);
-    let count = record::count_held(rec, size, job);
+    let count = nodes::count_held(rec, size, job);
     if count == 0 {
         return refused(11);
     }
-    record::clear(rec, size, job);
+    nodes::clear(rec, size, job);
     Reply::Done(count)
 }
 

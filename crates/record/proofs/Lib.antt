@@ -4,6 +4,3 @@ pub mod Fills
 pub mod Refusal
 pub mod Maximum
 pub mod Parts
-pub mod InPlace
-pub mod Among
-pub mod Sweeps

@@ -2,4 +2,3 @@
 pub mod Layout
 pub mod Filled
 pub mod Highest
-pub mod Holders

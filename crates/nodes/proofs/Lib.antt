@@ -1,0 +1,4 @@
+-- The laws of a record's parts changed in place.
+pub mod InPlace
+pub mod Among
+pub mod Sweeps

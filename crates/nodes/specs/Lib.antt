@@ -1,0 +1,2 @@
+-- What the functions on a record's nodes ask.
+pub mod Holders
