@@ -55,7 +55,7 @@ module _ (n : ℕ) (small : n ≤ 10) (b : List ℕ) (whole : length b ≡ 3088)
   answered es e = answers n (historyAt n es) (recordAfter delivered n b es) small (bounded es) (stands es) e
 
   -- what is heard of a call is its verdict, so the subcubes held are the history's
-  heard-is : (es : Exchanges) (e : Exchange) → heard (number delivered n b es e) (reply delivered n b es e) ≡ verdict n (historyAt n es) (fed e)
+  pub heard-is : (es : Exchanges) (e : Exchange) → heard (number delivered n b es e) (reply delivered n b es e) ≡ verdict n (historyAt n es) (fed e)
   heard-is es e =
       let A = answered es e in
       rw (A .returned, A .replied) (heard-back (verdict n (historyAt n es) (fed e)) (e .buffer) (A .plain))

@@ -43,7 +43,7 @@ module _ (r f : List ℕ) where
             refused 5 (λ e. omega arith)
             (rw (le-ltb (length f) 4 four, eq-eqb (word f 0) (length f) right, eq-eqb (word f 2) 0x0301 kind, ne-eqb (length f) 6 h))
 
-        set-up : length f ≡ 6 → firstNumber r f ≡ setupNumber r (word f 4)
+        pub set-up : length f ≡ 6 → firstNumber r f ≡ setupNumber r (word f 4)
         unfolding firstNumber
         set-up h = rw (le-ltb (length f) 4 four, eq-eqb (word f 0) (length f) right, eq-eqb (word f 2) 0x0301 kind, eq-eqb (length f) 6 h)
 

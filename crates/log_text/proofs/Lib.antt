@@ -3,3 +3,4 @@ pub mod Stays
 pub mod Parts
 pub mod Running
 pub mod Fronts
+pub mod Theorem

@@ -1,0 +1,166 @@
+-- After a right set-up a log prints what the history says of each frame, then the counts. Assumes nothing.
+use Prim.Native.Nat.{ℕ, _+_, _<_, _≤_, min}
+use mathlib.Core.Path.{_≡_, refl, sym, ap, _∙_, subst}
+use mathlib.Core.Logic.{_≢_}
+use mathlib.Core.Bool.{Bool, true, false}
+use mathlib.Core.List.{List, [], _∷_, _++_}
+use native.Mathlib.Omega.{arith}
+use borrow.Author.Tests.{eq-eqb, ne-eqb, eqb-true, le-leb}
+use lib.Dec.{eqb}
+use lib.ListN.{length, take, drop, length-append}
+use lib.Seq.{take-append-seam, drop-append-seam}
+use Rattle.hypercube.proofs.Tests.{cases}
+use Rattle.history.specs.Calls.{word}
+use Rattle.history.specs.Verdicts.{Verdict, granted, refused, done, verdict}
+use Rattle.tally.specs.declared.Outcome.{Outcome}
+use Rattle.tally.specs.declared.Outcome.the-variants.{Setup, Done, Granted, Refused}
+use Rattle.tally.specs.declared.Tally.{Tally}
+use Rattle.tally.specs.Counts.{none, counted}
+use Rattle.lines.specs.Text.{totalsOf}
+use Rattle.cube.specs.Called.{setupRecord, callRecord}
+use Rattle.cube.specs.Called.{delivered}
+use Rattle.cube.specs.Run.{Exchange, Exchanges, begin, _next_, fed, replies, heard, recordAfter, number, reply, historyAt}
+use Rattle.cube.proofs.Theorem.{heard-is, demand3}
+use Rattle.log.specs.declared.Cursor.{Cursor}
+use Rattle.log.specs.declared.Next.{Next}
+use Rattle.log.specs.declared.Next.the-variants as next
+use Rattle.log.specs.declared.Step.{Step}
+use Rattle.log.specs.declared.Step.the-variants.{Line, Last, More, End}
+use Rattle.log.specs.Next.{nextOf}
+use Rattle.log.specs.Frames.{firstNumber, firstRecord, readReply, zeros, laterOutcome, laterRecord}
+use Rattle.log.specs.Steps.{onFrame, onRecord, stepBy, recordBy, stepOf, stepRecord}
+use Rattle.log.proofs.Nexts as nexts
+use Rattle.log.proofs.Nexts.{Case, case, word-append, next-none, next-lone, next-under, next-past, next-whole}
+use Rattle.log.proofs.Firsts.{set-up}
+use Rattle.log_text.specs.Text.{lineAfter, Prints, ends, stops, goes}
+use Rattle.log_text.specs.Right.{SetsUp, Whole, joined, told, calls, ending, outcomeBy, linesBy, logBy, LogRight}
+
+-- ---- what is read from a number and a reply is what is heard
+
+-- with another number than 2
+heard-other : (m : ℕ) (p : List ℕ) → eqb m 2 ≡ false → readReply m p ≡ told (heard m p)
+unfolding readReply heard
+heard-other m p h = cases (eqb m 0) (λ a. cases (eqb (word p 2) 0x8001) (λ b. rw (a, b)) (λ b. rw (a, b))) (λ a. rw (a, h))
+
+-- with 2 the reply keeps its zeros
+heard-2 : (m : ℕ) (p : List ℕ) (v : Verdict) → m ≡ 2 → heard m p ≡ v → p ≡ replies v zeros → readReply m p ≡ told v
+unfolding readReply heard word
+heard-2 m p v e h q =
+    let k : v ≡ refused 2 0 = sym (rw e at h) in
+    let z : p ≡ zeros = rw k at q in
+    rw (e, z, k)
+
+read-heard : (m : ℕ) (p : List ℕ) (v : Verdict) → heard m p ≡ v → p ≡ replies v zeros → readReply m p ≡ told v
+read-heard m p v h q = cases (eqb m 2) (λ t. heard-2 m p v (eqb-true m 2 t) h q) (λ t. heard-other m p t ∙ ap told h)
+
+-- ---- a whole frame at the front of the input
+
+module _ (lines : ℕ) (r f more : List ℕ) (four : 4 ≤ length f) (right : word f 0 ≡ length f) (fewer : lines ≢ 4294967295) where
+  its-size : word (f ++ more) 0 ≡ length f
+  its-size = word-append f more (omega arith) ∙ right
+
+  its-bytes : take (word (f ++ more) 0) (f ++ more) ≡ f
+  its-bytes = rw its-size (take-append-seam f more)
+
+  its-next : nextOf true 0 (f ++ more) ≡ next.Frame (record { at = 0 + length f })
+  its-next =
+      rw its-size at
+      (next-whole true 0 (f ++ more) (rw length-append (omega arith)) (rw its-size (omega arith)) (rw (its-size, length-append) (omega arith)))
+
+  its-step : stepOf lines r true 0 (f ++ more) ≡ onFrame lines r f (record { at = 0 + length f })
+  unfolding stepOf
+  its-step = rw (ne-eqb lines 4294967295 fewer, its-next, its-bytes)
+
+  its-record : stepRecord lines r true 0 (f ++ more) ≡ onRecord lines r f
+  unfolding stepRecord
+  its-record = rw (ne-eqb lines 4294967295 fewer, its-next, its-bytes)
+
+  its-rest : drop (0 + length f) (f ++ more) ≡ more
+  its-rest = let z : 0 + length f ≡ length f = omega arith in rw z (drop-append-seam f more)
+
+-- ---- a later frame
+
+later-step : (lines : ℕ) (r f : List ℕ) → lines ≢ 0 → {c : Cursor} → onFrame lines r f c ≡ Line (laterOutcome r f) c
+unfolding onFrame
+later-step lines r f z = rw (ne-eqb lines 0 z)
+
+later-record : (lines : ℕ) (r f : List ℕ) → lines ≢ 0 → onRecord lines r f ≡ callRecord r f zeros
+unfolding onRecord laterRecord
+later-record lines r f z = rw (ne-eqb lines 0 z)
+
+total-more : (t : Tally) (o : Outcome) → counted t o .total ≡ min (t .total + 1) 4294967295
+total-more t (Setup n) = refl
+total-more t (Done v) = refl
+total-more t (Granted j low stars k) = refl
+total-more t (Refused m k) = refl
+
+-- ---- the whole log
+
+module _ (n : ℕ) (small : n ≤ 10) (b : List ℕ) (whole : length b ≡ 3088) where
+  -- a later frame is told what the history says
+  later-told : (es : Exchanges) (f : List ℕ) → laterOutcome (recordAfter delivered n b es) f ≡ outcomeBy n es f
+  unfolding laterOutcome
+  later-told es f =
+      read-heard (number delivered n b es (calls f)) (reply delivered n b es (calls f)) _ (heard-is n small b whole es (calls f)) (demand3 n small b whole .calls es (calls f) .replied)
+
+  module _ (rest : List ℕ) (cut : (c : Cursor) → nextOf true 0 rest ≢ next.Frame c) where
+    by-next : (t : Tally) (r : List ℕ) → t .total ≢ 4294967295 → (e : Next) → nextOf true 0 rest ≡ e → e ≢ next.More → Prints t r rest (ending t e)
+    unfolding stepOf
+    by-next t r h (next.Frame c) e m = absurd (cut c e)
+    by-next t r h next.More e m = absurd (m refl)
+    by-next t r h next.End e m = ends t r rest (rw (ne-eqb (t .total) 4294967295 h, e))
+    by-next t r h next.Broken e m = stops t r rest (Refused 3 0) (rw (ne-eqb (t .total) 4294967295 h, e))
+
+    -- where the input ends, more is never wanted
+    never-more : nextOf true 0 rest ≢ next.More
+    never-more e = let z : _≡_ {A = ℕ} 0 1 = go (case rest) in omega arith
+      where
+        go : Case rest → _≡_ {A = ℕ} 0 1
+        go (nexts.none h) = let k = next-none true 0 rest h in cc
+        go (nexts.lone h) = let k = next-lone true 0 rest h in cc
+        go (nexts.under w h) = let k = next-under true 0 rest w h in cc
+        go (nexts.past w f h) = let k = next-past true 0 rest w f h in cc
+        go (nexts.whole w f h) = let k = next-whole true 0 rest w f h in cc
+
+    later-lines : (fs : List (List ℕ)) (t : Tally) (es : Exchanges) → Whole fs → t .total ≢ 0 → t .total + length fs < 4294967295
+        → Prints t (recordAfter delivered n b es) (joined fs rest) (linesBy n t es fs (nextOf true 0 rest))
+    later-lines [] t es w z h = by-next t (recordAfter delivered n b es) (λ e. omega arith) (nextOf true 0 rest) refl never-more
+    later-lines (f ∷ fs) t es w z h =
+        let more = joined fs rest in
+        let r = recordAfter delivered n b es in
+        let o = outcomeBy n es f in
+        let few : t .total ≢ 4294967295 = λ e. omega arith in
+        let up = total-more t o in
+        goes t r (f ++ more) o (record { at = 0 + length f }) (linesBy n (counted t o) (es next calls f) fs (nextOf true 0 rest))
+        (its-step (t .total) r f more (w .0 .0) (w .0 .1) few ∙ later-step (t .total) r f z ∙ ap (λ (u : Outcome). Line u (record { at = 0 + length f })) (later-told es f))
+        (rw (its-record (t .total) r f more (w .0 .0) (w .0 .1) few, later-record (t .total) r f z, its-rest (t .total) r f more (w .0 .0) (w .0 .1) few)
+        (later-lines fs (counted t o) (es next calls f) (w .1) (λ e. omega arith) (omega arith)))
+
+  module _ (f : List ℕ) (S : SetsUp n f) where
+    four : 4 ≤ length f
+    four = omega (arith, S .size)
+
+    right : word f 0 ≡ length f
+    right = S .length-field ∙ sym (S .size)
+
+    accepted : firstNumber b f ≡ 0
+    accepted = set-up b f four right (S .kind) (S .size) ∙ rw (S .dimension) (demand3 n small b whole .set-up)
+
+    first-step : onFrame 0 b f (record { at = 0 + length f }) ≡ Line (Setup n) (record { at = 0 + length f })
+    unfolding onFrame
+    first-step = rw (accepted, S .dimension)
+
+    first-record : onRecord 0 b f ≡ setupRecord b n
+    unfolding onRecord firstRecord
+    first-record = rw (accepted, S .dimension)
+
+pub log-right : (n : ℕ) → n ≤ 10 → LogRight n
+log-right n small b f fs rest whole S w cut few =
+    let never : _≢_ {A = ℕ} 0 4294967295 = λ e. omega arith in
+    let four = four n small b whole f S in
+    let right = right n small b whole f S in
+    let more = joined fs rest in
+    goes none b (f ++ more) (Setup n) (record { at = 0 + length f }) (linesBy n (counted none (Setup n)) begin fs (nextOf true 0 rest))
+    (its-step 0 b f more four right never ∙ first-step n small b whole f S)
+    (rw (its-record 0 b f more four right never, first-record n small b whole f S, its-rest 0 b f more four right never)
+    (later-lines n small b whole rest cut fs (counted none (Setup n)) begin w (λ e. omega arith) (omega arith)))

@@ -1,0 +1,74 @@
+-- A whole log. After a right set-up each frame's line is what the history says of it, and then come the counts.
+use Prim.Native.Nat.{ℕ, _+_, _<_, _≤_}
+use mathlib.Core.Path.{_≡_}
+use mathlib.Core.Logic.{_≢_}
+use mathlib.Core.Bool.{true}
+use mathlib.Core.List.{List, [], _∷_, _++_}
+use lib.ListN.{length}
+use Rattle.history.specs.Calls.{word}
+use Rattle.history.specs.Verdicts.{Verdict, granted, refused, done, verdict}
+use Rattle.tally.specs.declared.Outcome.{Outcome}
+use Rattle.tally.specs.declared.Outcome.the-variants.{Setup, Done, Granted, Refused}
+use Rattle.tally.specs.declared.Tally.{Tally}
+use Rattle.tally.specs.Counts.{none, counted}
+use Rattle.lines.specs.Text.{totalsOf}
+use Rattle.cube.specs.Run.{Exchange, Exchanges, begin, _next_, fed, historyAt}
+use Rattle.log.specs.declared.Cursor.{Cursor}
+use Rattle.log.specs.declared.Next.{Next}
+use Rattle.log.specs.declared.Next.the-variants.{Frame, More, End, Broken}
+use Rattle.log.specs.Next.{nextOf}
+use Rattle.log.specs.Frames.{zeros}
+use Rattle.log_text.specs.Text.{lineAfter, Prints}
+
+-- "06 00 01 03", then n: a set-up of length 6 and kind 0x0301
+pub record SetsUp (n : ℕ) (f : List ℕ) : Type 0 where
+  pub size : length f ≡ 6
+  pub length-field : word f 0 ≡ 6
+  pub kind : word f 2 ≡ 0x0301
+  pub dimension : word f 4 ≡ n
+
+-- the frames have at least 4 bytes and their length fields are their sizes; nothing else is asked of them
+abbrev pub Whole : List (List ℕ) → Type 0
+Whole [] = Unit {0}
+Whole (f ∷ fs) = ((4 ≤ length f) × (word f 0 ≡ length f)) × Whole fs
+
+abbrev pub joined : List (List ℕ) → List ℕ → List ℕ
+joined [] rest = rest
+joined (f ∷ fs) rest = f ++ joined fs rest
+
+-- the outcome that a verdict is told as
+abbrev pub told : Verdict → Outcome
+told (granted j low stars t) = Granted j low stars t
+told (refused m t) = Refused m t
+told (done v) = Done v
+
+-- a frame as a call
+abbrev pub calls : List ℕ → Exchange
+calls f = record { frame = f; buffer = zeros }
+
+-- the end of the input after the last whole frame: nothing, or what is no whole frame
+abbrev pub ending : Tally → Next → List ℕ
+ending t (Frame c) = []
+ending t More = []
+ending t End = totalsOf t
+ending t Broken = lineAfter t (Refused 3 0) ++ totalsOf (counted t (Refused 3 0))
+
+module _ (n : ℕ) where
+  -- the outcome of the frame f after the calls es, by the history
+  abbrev pub outcomeBy : Exchanges → List ℕ → Outcome
+  outcomeBy es f = told (verdict n (historyAt n es) (fed (calls f)))
+
+  -- the lines of the frames after the calls es and the counts t, and the ending
+  abbrev pub linesBy : Tally → Exchanges → List (List ℕ) → Next → List ℕ
+  linesBy t es [] e = ending t e
+  linesBy t es (f ∷ fs) e = lineAfter t (outcomeBy es f) ++ linesBy (counted t (outcomeBy es f)) (es next calls f) fs e
+
+  -- the first line is the set-up's
+  abbrev pub logBy : List (List ℕ) → Next → List ℕ
+  logBy fs e = lineAfter none (Setup n) ++ linesBy (counted none (Setup n)) begin fs e
+
+  -- on any buffer of the record's size, with a right set-up first, and fewer frames than a log may have
+  abbrev pub LogRight : Type 0
+  LogRight =
+      (b f : List ℕ) (fs : List (List ℕ)) (rest : List ℕ) → length b ≡ 3088 → SetsUp n f → Whole fs → ((c : Cursor) → nextOf true 0 rest ≢ Frame c) → length fs + 1 < 4294967295
+      → Prints none b (f ++ joined fs rest) (logBy fs (nextOf true 0 rest))
