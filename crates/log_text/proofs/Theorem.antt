@@ -17,8 +17,7 @@ use Rattle.tally.specs.declared.Outcome.the-variants.{Setup, Done, Granted, Ref
 use Rattle.tally.specs.declared.Tally.{Tally}
 use Rattle.tally.specs.Counts.{none, counted}
 use Rattle.lines.specs.Text.{totalsOf}
-use Rattle.cube.specs.Called.{setupRecord, callRecord}
-use Rattle.cube.specs.Called.{delivered}
+use Rattle.cube.specs.Called.{setupRecord, callRecord, delivered}
 use Rattle.cube.specs.Run.{Exchange, Exchanges, begin, _next_, fed, replies, heard, recordAfter, number, reply, historyAt}
 use Rattle.cube.proofs.Theorem.{heard-is, demand3}
 use Rattle.log.specs.declared.Cursor.{Cursor}
