@@ -2,19 +2,14 @@
 use Prim.Native.Nat.{ℕ, zero, suc, _+_, _*_, _-_, _/_, _%_, _^_, _<_, _≤_}
 use mathlib.Core.Path.{_≡_, refl, sym, ap, _∙_}
 use mathlib.Core.Logic.{_≢_}
-use mathlib.Core.Bool.{Bool, true, false}
 use mathlib.Core.List.{List, [], _∷_, _++_}
 use native.Mathlib.Nat.{pow-succ'}
 use native.Mathlib.Omega.{arith}
 use borrow.Author.Tests.{ltb-true, ltb-false, lt-ltb, le-ltb}
 use lib.Dec.{ltb}
 use lib.ListN.{length, getD, length-append}
+use Rattle.hypercube.proofs.Tests.{cases}
 use Rattle.lines.specs.Text.{digit, decimalOf, decimal}
-
--- by cases on a test, with the equation
-cases : {A : Type 0} (b : Bool) → (b ≡ true → A) → (b ≡ false → A) → A
-cases true f g = f refl
-cases false f g = g refl
 
 one-digit : (k x : ℕ) → x < 10 → decimalOf (suc k) x ≡ digit x ∷ []
 unfolding decimalOf

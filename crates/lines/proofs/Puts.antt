@@ -1,6 +1,6 @@
 -- Bytes put one after the other. Assumes nothing.
-use Prim.Native.Nat.{ℕ, zero, suc, _+_, _/_, _%_, _^_, _<_, _≤_}
-use mathlib.Core.Path.{_≡_, refl, sym, ap, _∙_}
+use Prim.Native.Nat.{ℕ, suc, _+_, _/_, _%_, _^_, _<_, _≤_}
+use mathlib.Core.Path.{_≡_, refl, _∙_}
 use mathlib.Core.List.{List, [], _∷_, _++_}
 use native.Mathlib.Numerals.{add-one}
 use native.Mathlib.Omega.{arith}
@@ -56,7 +56,8 @@ pub number-more : {p p′ p″ : List ℕ} {at next end : ℕ} (x d : ℕ) → 1
 number-more x d g h e f l = rw (decimal-more x g h) (put-then (decimal (x / 10)) (digit (x % 10) ∷ []) f (rw e at l))
 
 -- a text, and a number after it
-pub item-put : {p p′ p″ : List ℕ} {at next end : ℕ} (text : List ℕ) (x : ℕ) → Put p at text p′ next → Put p′ next (decimal x) p″ end → Item p at text x p″ end
+pub item-put : {p p′ p″ : List ℕ} {at next end : ℕ} (text : List ℕ) (x : ℕ) → Put p at text p′ next → Put p′ next (decimal x) p″ end
+    → Item p at text x p″ end
 unfolding item
 item-put text x f g = record { put = put-then text (decimal x) f g; short = omega (arith, decimal-short x, f .placed, g .placed) }
 

@@ -1,43 +1,39 @@
 -- The first frame's number and the record after it, by each way out; and a later frame's outcome. Assumes nothing.
 use Prim.Native.Nat.{ℕ, _<_, _≤_}
-use mathlib.Core.Path.{_≡_, refl, sym, ap, _∙_}
+use mathlib.Core.Path.{_≡_, sym, _∙_}
 use mathlib.Core.Logic.{_≢_}
-use mathlib.Core.Bool.{Bool, true, false, cond, not}
 use mathlib.Core.List.{List}
 use native.Mathlib.Omega.{arith}
-use borrow.Author.Tests.{ltb-true, ltb-false, lt-ltb, le-ltb, eq-eqb, ne-eqb, eqb-true}
+use borrow.Author.Tests.{lt-ltb, le-ltb, eq-eqb, ne-eqb, eqb-true}
 use lib.Dec.{eqb, ltb}
 use lib.ListN.{length}
 use Rattle.hypercube.proofs.Tests.{cases}
 use Rattle.history.specs.Calls.{word}
 use Rattle.cube.specs.Called.{setupNumber, setupRecord, SetUp}
-use Rattle.log.specs.Frames.{firstNumber, firstRecord}
+use Rattle.log.specs.Frames.{firstNumber, firstRecord, First}
 
 module _ (r f : List ℕ) where
-  abbrev pub Done : ℕ → List ℕ → Type 0
-  Done m r′ = (m ≡ firstNumber r f) × (r′ ≡ firstRecord r f)
-
-  refused : (m : ℕ) → m ≢ 0 → firstNumber r f ≡ m → Done m r
+  refused : (m : ℕ) → m ≢ 0 → firstNumber r f ≡ m → First r f m r
   unfolding firstRecord
   refused m z e = (sym e, rw (e, ne-eqb m 0 z))
 
-  pub first-short : length f < 4 → Done 3 r
+  pub first-short : length f < 4 → First r f 3 r
   unfolding firstNumber
   first-short h = refused 3 (λ e. omega arith) (rw (lt-ltb (length f) 4 h))
 
   module _ (four : 4 ≤ length f) where
-    pub first-length : word f 0 ≢ length f → Done 3 r
+    pub first-length : word f 0 ≢ length f → First r f 3 r
     unfolding firstNumber
     first-length h = refused 3 (λ e. omega arith) (rw (le-ltb (length f) 4 four, ne-eqb (word f 0) (length f) h))
 
     module _ (right : word f 0 ≡ length f) where
-      pub first-kind : word f 2 ≢ 0x0301 → Done 4 r
+      pub first-kind : word f 2 ≢ 0x0301 → First r f 4 r
       unfolding firstNumber
       first-kind h =
           refused 4 (λ e. omega arith) (rw (le-ltb (length f) 4 four, eq-eqb (word f 0) (length f) right, ne-eqb (word f 2) 0x0301 h))
 
       module _ (kind : word f 2 ≡ 0x0301) where
-        pub first-size : length f ≢ 6 → Done 5 r
+        pub first-size : length f ≢ 6 → First r f 5 r
         unfolding firstNumber
         first-size h =
             refused 5 (λ e. omega arith)
@@ -47,7 +43,7 @@ module _ (r f : List ℕ) where
         unfolding firstNumber
         set-up h = rw (le-ltb (length f) 4 four, eq-eqb (word f 0) (length f) right, eq-eqb (word f 2) 0x0301 kind, eq-eqb (length f) 6 h)
 
-        pub first-set-up : length f ≡ 6 → (n m : ℕ) (r′ : List ℕ) → n ≡ word f 4 → SetUp r n m r′ → Done m r′
+        pub first-set-up : length f ≡ 6 → (n m : ℕ) (r′ : List ℕ) → n ≡ word f 4 → SetUp r n m r′ → First r f m r′
         unfolding firstRecord setupRecord
         first-set-up h n m r′ e s = (
           s .returned ∙ rw e (sym (set-up h)),

@@ -1,13 +1,13 @@
 -- What the input has next, by the bytes that are there; and that no answer but 'more' changes when more is read. Assumes nothing.
 use Prim.Native.Nat.{ℕ, _+_, _-_, _<_, _≤_}
-use mathlib.Core.Path.{_≡_, refl, sym, ap, _∙_}
+use mathlib.Core.Path.{_≡_, sym, ap, _∙_}
 use mathlib.Core.Logic.{_≢_}
 use mathlib.Core.Bool.{Bool, true, false, cond}
-use mathlib.Core.List.{List, [], _∷_, _++_}
+use mathlib.Core.List.{List, _++_}
 use native.Mathlib.Omega.{arith}
 use borrow.Author.Tests.{ltb-true, ltb-false, lt-ltb, le-ltb}
 use lib.Dec.{ltb}
-use lib.ListN.{length, getD, drop, length-append, length-drop, List·getD-append}
+use lib.ListN.{length, drop, length-append, List·getD-append}
 use lib.Seq.{getD-drop}
 use Rattle.hypercube.proofs.Tests.{cases}
 use Rattle.history.specs.Calls.{word}
@@ -40,7 +40,8 @@ case l =
     let two : 1 < length l = ltb-true 1 (length l) b in
     cases (ltb (word l 0) 4) (λ d. under two (ltb-true (word l 0) 4 d)) (λ d.
     let four : 4 ≤ word l 0 = ltb-false (word l 0) 4 d in
-    cases (ltb (length l) (word l 0)) (λ e. past two four (ltb-true (length l) (word l 0) e)) (λ e. whole two four (ltb-false (length l) (word l 0) e))
+    cases (ltb (length l) (word l 0)) (λ e. past two four (ltb-true (length l) (word l 0) e))
+    (λ e. whole two four (ltb-false (length l) (word l 0) e))
     )
     ) (λ b. lone (omega (arith, ltb-true 0 (length l) a, ltb-false 1 (length l) b)))
     ) (λ a. none (omega (arith, ltb-false 0 (length l) a)))

@@ -1,6 +1,6 @@
 -- A step, by what the input has next. Assumes nothing.
-use Prim.Native.Nat.{ℕ, _+_, _-_, _≤_}
-use mathlib.Core.Path.{_≡_, refl, sym, ap, _∙_}
+use Prim.Native.Nat.{ℕ, _-_, _≤_}
+use mathlib.Core.Path.{_≡_, sym, _∙_}
 use mathlib.Core.Logic.{_≢_}
 use mathlib.Core.Bool.{Bool}
 use mathlib.Core.List.{List}
@@ -56,7 +56,8 @@ module _ (r f : List ℕ) (c : Cursor) where
   later-line lines o r′ z l = record { answered = rw (ne-eqb lines 0 z, l .outcome); «record» = rw (ne-eqb lines 0 z) (l .«record») }
 
 -- the frame lies in the window
-pub within : (last : Bool) (at : ℕ) (w : List ℕ) (n : Next) (c : Cursor) → n ≡ nextOf last at (drop at w) → n ≡ Frame c → (at ≤ c .at) × (c .at ≤ length w)
+pub within : (last : Bool) (at : ℕ) (w : List ℕ) (n : Next) (c : Cursor) → n ≡ nextOf last at (drop at w) → n ≡ Frame c
+    → (at ≤ c .at) × (c .at ≤ length w)
 within last at w n c e q =
     let F = framed last at (drop at w) c (sym q ∙ e) in
     let h : word (drop at w) 0 ≤ length w - at = rw (← length-drop at w) (F .there) in

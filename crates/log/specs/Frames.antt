@@ -38,7 +38,10 @@ laterOutcome r f = readReply (callNumber r f zeros) (callReply r f zeros)
 unfoldable pub laterRecord : List ℕ → List ℕ → List ℕ
 laterRecord r f = callRecord r f zeros
 
--- the contract: the outcome, and the record's bytes afterwards
+-- the contracts: the number or the outcome, and the record's bytes afterwards
+abbrev pub First : List ℕ → List ℕ → ℕ → List ℕ → Type 0
+First r f m r′ = (m ≡ firstNumber r f) × (r′ ≡ firstRecord r f)
+
 pub record Later (r f : List ℕ) (told : Outcome) (r′ : List ℕ) : Type 0 where
   pub outcome : told ≡ laterOutcome r f
   pub «record» : r′ ≡ laterRecord r f

@@ -1,4 +1,4 @@
--- What the input has next. Document 01, "Log program": "A lone last byte, or a length under 4 or past the input's end, prints 'refused 3 0' and stops."
+-- What the input has next. Document 01: "A lone last byte, or a length under 4 or past the input's end, prints 'refused 3 0' and stops."
 use Prim.Native.Nat.{ℕ, _+_}
 use mathlib.Core.Bool.{Bool, cond}
 use mathlib.Core.List.{List}

@@ -1,10 +1,10 @@
 -- One step of a log. Document 01, "Log program".
-use Prim.Native.Nat.{ℕ, _+_}
+use Prim.Native.Nat.{ℕ}
 use mathlib.Core.Path.{_≡_}
 use mathlib.Core.Bool.{Bool, cond}
 use mathlib.Core.List.{List}
 use lib.Dec.{eqb}
-use lib.ListN.{length, take}
+use lib.ListN.{take}
 use Rattle.history.specs.Calls.{word}
 use Rattle.tally.specs.declared.Outcome.the-variants.{Setup, Refused}
 use Rattle.log.specs.declared.Cursor.{Cursor}

@@ -7,7 +7,7 @@ ghost use lib.ListN.{length, drop};
 ghost use Rattle.history.specs.Calls.{word};
 ghost use Rattle.log.specs.declared.Next.the-variants.{Broken, More};
 ghost use Rattle.log.specs.Next.{nextOf};
-ghost use Rattle.log.specs.Frames.{firstNumber, firstRecord, Later, readReply};
+ghost use Rattle.log.specs.Frames.{First, Later, readReply};
 ghost use Rattle.log.specs.Steps.{OnFrame, Stepped};
 
 // The place in a window up to which frames were read.
@@ -75,7 +75,7 @@ pub fn next_frame(window: &[u8], c: Cursor, last: bool) -> Next
 
 // Set-up by a first frame: 0, or the number of its refusal.
 fn set_up(rec: &mut [u8], frame: &[u8]) -> u32
-    ensures { λ m. ⌜ (m ≡ firstNumber (now (rec .entry)) (now (frame .entry))) × (now (rec .exit) ≡ firstRecord (now (rec .entry)) (now (frame .entry))) ⌝ }
+    ensures { λ m. ⌜ First (now (rec .entry)) (now (frame .entry)) m (now (rec .exit)) ⌝ }
 {
     let len = frame.len();
     if len < 4 {

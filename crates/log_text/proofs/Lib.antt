@@ -4,3 +4,4 @@ pub mod Parts
 pub mod Running
 pub mod Fronts
 pub mod Theorem
+pub mod Once

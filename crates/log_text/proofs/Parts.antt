@@ -1,12 +1,11 @@
 -- A step is a part of a log, and parts make a whole. Assumes nothing.
-use Prim.Native.Nat.{ℕ, _+_, _-_, _<_, _≤_}
+use Prim.Native.Nat.{ℕ, _+_, _-_, _≤_}
 use mathlib.Core.Path.{_≡_, refl, sym, ap, _∙_}
-use mathlib.Core.Logic.{_⊎_, inl, inr, _≢_}
-use mathlib.Core.Bool.{Bool, true, false, not, _&&_, true≢false}
-use mathlib.Core.List.{List, [], _∷_, _++_, append-assoc}
+use mathlib.Core.Logic.{inl, inr, _≢_}
+use mathlib.Core.Bool.{Bool, true, false, true≢false}
+use mathlib.Core.List.{List, [], _++_}
 use native.Mathlib.Omega.{arith}
-use borrow.Author.Tests.{leb-true, leb-false}
-use lib.Dec.{eqb, leb}
+use lib.Dec.{eqb}
 use lib.ListN.{length, drop, take, length-drop}
 use lib.Seq.{drop-drop, drop-append-le}
 use Rattle.hypercube.proofs.Tests.{cases}
@@ -15,7 +14,6 @@ use Rattle.tally.specs.declared.Outcome.{Outcome}
 use Rattle.tally.specs.Counts.{counted}
 use Rattle.lines.specs.Text.{totalsOf}
 use Rattle.lines.specs.Put.{Put}
-use Rattle.lines.proofs.Puts.{put-then}
 use Rattle.lines.proofs.Lengths.{line-length}
 use Rattle.log.specs.declared.Cursor.{Cursor}
 use Rattle.log.specs.declared.Next.{Next}
@@ -27,8 +25,8 @@ use Rattle.log.specs.Frames.{firstNumber}
 use Rattle.log.specs.Steps.{onFrame, stepBy, recordBy, stepOf, stepRecord, Stepped}
 use Rattle.log.proofs.Nexts.{Framed, framed}
 use Rattle.log_text.specs.declared.Place.{Place}
-use Rattle.log_text.specs.Text.{lineAfter, Prints, ends, stops, goes}
-use Rattle.log_text.specs.Moves.{Added, Left, Moves, Waiting, Turned, Ran}
+use Rattle.log_text.specs.Text.{lineAfter, ends, stops, goes}
+use Rattle.log_text.specs.Moves.{Added, Left, Turned}
 use Rattle.log_text.proofs.Stays.{moved, step-stays}
 
 -- ---- what a step says of the input
@@ -68,7 +66,8 @@ module _ (lines : ℕ) (r : List ℕ) (last : Bool) (at : ℕ) (l : List ℕ) wh
   unfolding stepOf
   line-frame o c e =
       framed last at l c
-      (sym (cases (eqb lines 4294967295) (λ a. let k = rw a at e in cc) (λ a. by-line lines r (take (word l 0) l) o c (nextOf last at l) (rw a at e))))
+      (sym (cases (eqb lines 4294967295) (λ a. let k = rw a at e in cc)
+      (λ a. by-line lines r (take (word l 0) l) o c (nextOf last at l) (rw a at e))))
 
   -- where more is wanted the record stays
   more-record : stepOf lines r last at l ≡ More → stepRecord lines r last at l ≡ r
@@ -81,9 +80,6 @@ module _ (w : List ℕ) (last : Bool) (p : Place) (r out : List ℕ) (s : Step) 
     (S : Stepped (p .tally .total) r last (p .at) (drop (p .at) w) s r′) where
   abbrev l : List ℕ
   l = drop (p .at) w
-
-  abbrev was : Step
-  was = stepOf (p .tally .total) r last (p .at) l
 
   -- the same step on the whole input
   module _ (more : List ℕ) (end : last ≡ true → more ≡ []) (n : s ≢ More) where
@@ -102,7 +98,13 @@ module _ (w : List ℕ) (last : Bool) (p : Place) (r out : List ℕ) (s : Step) 
 
     pub turned-line : (c : Cursor) → s ≡ Line o c → Added out p o (c .at) false out′ q → Turned w last p r out q r′ out′
     turned-line c e A = record {
-      moves = record { bytes = lineAfter (p .tally) o; printed = A .put; completes = completes; inside = λ h. rw (A .at) inside; fits = λ h. fits-line (c .at) false A };
+      moves = record {
+        bytes = lineAfter (p .tally) o;
+        printed = A .put;
+        completes = completes;
+        inside = λ h. rw (A .at) inside;
+        fits = λ h. fits-line (c .at) false A;
+      };
       waiting = λ h. absurd (true≢false (sym h ∙ A .waits));
       falls = inr (inr (rw (A .at) (omega (arith, F .ends, F .four)), rw (A .at) inside));
     }
@@ -134,7 +136,13 @@ module _ (w : List ℕ) (last : Bool) (p : Place) (r out : List ℕ) (s : Step) 
 
     pub turned-last : s ≡ Last o → Added out p o (p .at) true out′ q → Turned w last p r out q r′ out′
     turned-last e A = record {
-      moves = record { bytes = lineAfter (p .tally) o; printed = A .put; completes = completes; inside = λ h. rw (A .at) h; fits = λ h. fits-line (p .at) true A };
+      moves = record {
+        bytes = lineAfter (p .tally) o;
+        printed = A .put;
+        completes = completes;
+        inside = λ h. rw (A .at) h;
+        fits = λ h. fits-line (p .at) true A;
+      };
       waiting = λ h. absurd (true≢false (sym h ∙ A .waits));
       falls = inl (A .ended);
     }

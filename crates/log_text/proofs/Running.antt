@@ -7,11 +7,11 @@ use mathlib.Core.List.{List, [], _++_, append-assoc}
 use native.Mathlib.Omega.{arith}
 use borrow.Author.Tests.{leb-true, leb-false, le-leb, lt-leb}
 use lib.Dec.{leb}
-use lib.ListN.{length, drop}
+use lib.ListN.{length}
 use Rattle.hypercube.proofs.Tests.{cases}
 use Rattle.lines.proofs.Puts.{put-then}
 use Rattle.log_text.specs.declared.Place.{Place}
-use Rattle.log_text.specs.Moves.{Left, Moves, Waiting, Turned, Ran}
+use Rattle.log_text.specs.Moves.{Moves, Waiting, Turned, Ran}
 
 -- ---- the test
 
@@ -75,7 +75,8 @@ module _ (w : List ℕ) (last : Bool) where
   }
 
   -- a step more
-  pub running-more : {p q s : Place} {r r′ r″ out out′ out″ : List ℕ} → Running p r out q r′ out′ → Turned w last q r′ out′ s r″ out″ → Running p r out s r″ out″
+  pub running-more : {p q s : Place} {r r′ r″ out out′ out″ : List ℕ} → Running p r out q r′ out′ → Turned w last q r′ out′ s r″ out″
+      → Running p r out s r″ out″
   running-more {p} {q} {s} A T =
       let M = A .moves in
       let N = T .moves in
@@ -111,7 +112,8 @@ module _ (w : List ℕ) (last : Bool) where
       go (inr (inr h)) = omega (arith, left-most s, h .0, h .1)
 
   -- where the test fails; the place p may have waited before
-  pub ran : {p q : Place} {r r′ out out′ : List ℕ} → Running (record { at = p .at; put = p .put; tally = p .tally; ended = p .ended; waits = false }) r out q r′ out′
+  pub ran : {p q : Place} {r r′ out out′ : List ℕ}
+      → Running (record { at = p .at; put = p .put; tally = p .tally; ended = p .ended; waits = false }) r out q r′ out′
       → (t : Bool) → t ≡ (not (q .ended) && (not (q .waits) && leb (q .put + 64) (length out′))) → t ≡ false → Ran w last p r out q r′ out′
   ran {p} {q} {r′ = r′} {out′ = out′} A t e h = record {
     moves = record {

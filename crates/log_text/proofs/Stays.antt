@@ -1,23 +1,22 @@
 -- A step that doesn't ask for more does the same on the whole input. Assumes nothing.
-use Prim.Native.Nat.{ℕ, _+_, _-_, _<_, _≤_}
-use mathlib.Core.Path.{_≡_, refl, sym, ap, _∙_}
+use Prim.Native.Nat.{ℕ, _+_, _-_}
+use mathlib.Core.Path.{_≡_, refl, _∙_}
 use mathlib.Core.Logic.{_≢_}
 use mathlib.Core.Bool.{Bool, true, false, cond}
-use mathlib.Core.List.{List, [], _∷_, _++_, append-nil}
+use mathlib.Core.List.{List, [], _++_, append-nil}
 use native.Mathlib.Omega.{arith}
 use lib.Dec.{eqb}
 use lib.ListN.{length, take, length-append}
 use lib.Seq.{take-append-le}
 use Rattle.hypercube.proofs.Tests.{cases}
 use Rattle.history.specs.Calls.{word}
-use Rattle.log.specs.declared.Cursor.{Cursor}
 use Rattle.log.specs.declared.Next.{Next}
 use Rattle.log.specs.declared.Next.the-variants as next
 use Rattle.log.specs.declared.Step.{Step}
 use Rattle.log.specs.declared.Step.the-variants.{Line, Last, More, End}
 use Rattle.log.specs.Next.{nextOf}
 use Rattle.log.specs.Frames.{firstNumber}
-use Rattle.log.specs.Steps.{onFrame, onRecord, stepBy, recordBy, stepOf, stepRecord}
+use Rattle.log.specs.Steps.{onFrame, stepBy, recordBy, stepOf, stepRecord}
 use Rattle.log.proofs.Nexts.{Case, none, lone, under, past, whole, case, word-append, next-none, next-lone, next-under, next-past, next-whole}
 
 -- a step whose cursor counts from `at` on
@@ -38,7 +37,8 @@ module _ (lines : ℕ) (r f : List ℕ) (at size : ℕ) where
 module _ (lines : ℕ) (r : List ℕ) (last : Bool) (at : ℕ) (l more : List ℕ) (end : last ≡ true → more ≡ []) where
   abbrev Same : Type 0
   Same =
-      (stepOf lines r true 0 (l ++ more) ≡ moved at (stepOf lines r last at l)) × (stepRecord lines r true 0 (l ++ more) ≡ stepRecord lines r last at l)
+      (stepOf lines r true 0 (l ++ more) ≡ moved at (stepOf lines r last at l)) ×
+      (stepRecord lines r true 0 (l ++ more) ≡ stepRecord lines r last at l)
 
   -- by what each has next
   both : (n n₀ : Next) → eqb lines 4294967295 ≡ false → nextOf last at l ≡ n → nextOf true 0 (l ++ more) ≡ n₀
@@ -53,7 +53,8 @@ module _ (lines : ℕ) (r : List ℕ) (last : Bool) (at : ℕ) (l more : List �
 
   module _ (t : eqb lines 4294967295 ≡ false) (n : stepOf lines r last at l ≢ More) where
     -- what is no whole frame: the input ends there
-    unfinished : (x : Next) → ((f g : List ℕ) → stepBy lines r f x ≡ moved at (stepBy lines r g x)) → ((f g : List ℕ) → recordBy lines r f x ≡ recordBy lines r g x)
+    unfinished : (x : Next) → ((f g : List ℕ) → stepBy lines r f x ≡ moved at (stepBy lines r g x))
+        → ((f g : List ℕ) → recordBy lines r f x ≡ recordBy lines r g x)
         → nextOf last at l ≡ cond last x next.More → nextOf true 0 l ≡ x → Same
     unfinished x s q a b =
         cases last (λ e. both x x t (a ∙ rw e) (rw (end e, append-nil l) b) (s _ _) (q _ _)) (λ e. absurd (n (asks t (a ∙ rw e))))

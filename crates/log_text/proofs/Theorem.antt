@@ -1,38 +1,36 @@
 -- After a right set-up a log prints what the history says of each frame, then the counts. Assumes nothing.
 use Prim.Native.Nat.{ℕ, _+_, _<_, _≤_, min}
-use mathlib.Core.Path.{_≡_, refl, sym, ap, _∙_, subst}
+use mathlib.Core.Path.{_≡_, refl, sym, ap, _∙_}
 use mathlib.Core.Logic.{_≢_}
-use mathlib.Core.Bool.{Bool, true, false}
+use mathlib.Core.Bool.{true, false}
 use mathlib.Core.List.{List, [], _∷_, _++_}
 use native.Mathlib.Omega.{arith}
-use borrow.Author.Tests.{eq-eqb, ne-eqb, eqb-true, le-leb}
+use borrow.Author.Tests.{ne-eqb, eqb-true}
 use lib.Dec.{eqb}
 use lib.ListN.{length, take, drop, length-append}
 use lib.Seq.{take-append-seam, drop-append-seam}
 use Rattle.hypercube.proofs.Tests.{cases}
 use Rattle.history.specs.Calls.{word}
-use Rattle.history.specs.Verdicts.{Verdict, granted, refused, done, verdict}
+use Rattle.history.specs.Verdicts.{Verdict, refused}
 use Rattle.tally.specs.declared.Outcome.{Outcome}
 use Rattle.tally.specs.declared.Outcome.the-variants.{Setup, Done, Granted, Refused}
 use Rattle.tally.specs.declared.Tally.{Tally}
 use Rattle.tally.specs.Counts.{none, counted}
-use Rattle.lines.specs.Text.{totalsOf}
 use Rattle.cube.specs.Called.{setupRecord, callRecord, delivered}
-use Rattle.cube.specs.Run.{Exchange, Exchanges, begin, _next_, fed, replies, heard, recordAfter, number, reply, historyAt}
+use Rattle.cube.specs.Run.{Exchanges, begin, _next_, replies, heard, recordAfter, number, reply}
 use Rattle.cube.proofs.Theorem.{heard-is, demand3}
 use Rattle.log.specs.declared.Cursor.{Cursor}
 use Rattle.log.specs.declared.Next.{Next}
 use Rattle.log.specs.declared.Next.the-variants as next
-use Rattle.log.specs.declared.Step.{Step}
-use Rattle.log.specs.declared.Step.the-variants.{Line, Last, More, End}
+use Rattle.log.specs.declared.Step.the-variants.{Line, More, End}
 use Rattle.log.specs.Next.{nextOf}
 use Rattle.log.specs.Frames.{firstNumber, firstRecord, readReply, zeros, laterOutcome, laterRecord}
-use Rattle.log.specs.Steps.{onFrame, onRecord, stepBy, recordBy, stepOf, stepRecord}
+use Rattle.log.specs.Steps.{onFrame, onRecord, stepOf, stepRecord}
 use Rattle.log.proofs.Nexts as nexts
 use Rattle.log.proofs.Nexts.{Case, case, word-append, next-none, next-lone, next-under, next-past, next-whole}
 use Rattle.log.proofs.Firsts.{set-up}
-use Rattle.log_text.specs.Text.{lineAfter, Prints, ends, stops, goes}
-use Rattle.log_text.specs.Right.{SetsUp, Whole, joined, told, calls, ending, outcomeBy, linesBy, logBy, LogRight}
+use Rattle.log_text.specs.Text.{Prints, ends, stops, goes}
+use Rattle.log_text.specs.Right.{SetsUp, Whole, joined, told, calls, ending, outcomeBy, linesBy, LogRight}
 
 -- ---- what is read from a number and a reply is what is heard
 
@@ -100,7 +98,8 @@ module _ (n : ℕ) (small : n ≤ 10) (b : List ℕ) (whole : length b ≡ 3088)
   later-told : (es : Exchanges) (f : List ℕ) → laterOutcome (recordAfter delivered n b es) f ≡ outcomeBy n es f
   unfolding laterOutcome
   later-told es f =
-      read-heard (number delivered n b es (calls f)) (reply delivered n b es (calls f)) _ (heard-is n small b whole es (calls f)) (demand3 n small b whole .calls es (calls f) .replied)
+      read-heard (number delivered n b es (calls f)) (reply delivered n b es (calls f)) _ (heard-is n small b whole es (calls f))
+      (demand3 n small b whole .calls es (calls f) .replied)
 
   module _ (rest : List ℕ) (cut : (c : Cursor) → nextOf true 0 rest ≢ next.Frame c) where
     by-next : (t : Tally) (r : List ℕ) → t .total ≢ 4294967295 → (e : Next) → nextOf true 0 rest ≡ e → e ≢ next.More → Prints t r rest (ending t e)
@@ -131,8 +130,14 @@ module _ (n : ℕ) (small : n ≤ 10) (b : List ℕ) (whole : length b ≡ 3088)
         let few : t .total ≢ 4294967295 = λ e. omega arith in
         let up = total-more t o in
         goes t r (f ++ more) o (record { at = 0 + length f }) (linesBy n (counted t o) (es next calls f) fs (nextOf true 0 rest))
-        (its-step (t .total) r f more (w .0 .0) (w .0 .1) few ∙ later-step (t .total) r f z ∙ ap (λ (u : Outcome). Line u (record { at = 0 + length f })) (later-told es f))
-        (rw (its-record (t .total) r f more (w .0 .0) (w .0 .1) few, later-record (t .total) r f z, its-rest (t .total) r f more (w .0 .0) (w .0 .1) few)
+        (its-step (t .total) r f more (w .0 .0) (w .0 .1) few ∙ later-step (t .total) r f z ∙ ap
+        (λ (u : Outcome). Line u (record { at = 0 + length f })) (later-told es f))
+        (rw (
+          its-record (t .total) r f more (w .0 .0) (w .0 .1) few,
+          later-record (t .total) r f z,
+          its-rest (t .total) r f more (w .0 .0)
+              (w .0 .1) few,
+        )
         (later-lines fs (counted t o) (es next calls f) (w .1) (λ e. omega arith) (omega arith)))
 
   module _ (f : List ℕ) (S : SetsUp n f) where

@@ -34,7 +34,8 @@ Left p r l text = elim (p .ended) [ true ↦ text ≡ totalsOf (p .tally) | fals
 pub record Moves (w : List ℕ) (last : Bool) (p : Place) (r out : List ℕ) (q : Place) (r′ out′ : List ℕ) : Type 0 where
   pub bytes : List ℕ
   pub printed : Put out (p .put) bytes out′ (q .put)
-  pub completes : (more text : List ℕ) → (last ≡ true → more ≡ []) → Left q r′ (drop (q .at) w ++ more) text → Left p r (drop (p .at) w ++ more) (bytes ++ text)
+  pub completes : (more text : List ℕ) → (last ≡ true → more ≡ []) → Left q r′ (drop (q .at) w ++ more) text
+      → Left p r (drop (p .at) w ++ more) (bytes ++ text)
   pub inside : p .at ≤ length w → q .at ≤ length w
   pub fits : p .put ≤ length out → q .put ≤ length out
 

@@ -70,5 +70,6 @@ module _ (n : ℕ) where
   -- on any buffer of the record's size, with a right set-up first, and fewer frames than a log may have
   abbrev pub LogRight : Type 0
   LogRight =
-      (b f : List ℕ) (fs : List (List ℕ)) (rest : List ℕ) → length b ≡ 3088 → SetsUp n f → Whole fs → ((c : Cursor) → nextOf true 0 rest ≢ Frame c) → length fs + 1 < 4294967295
+      (b f : List ℕ) (fs : List (List ℕ)) (rest : List ℕ) → length b ≡ 3088 → SetsUp n f → Whole fs → ((c : Cursor) → nextOf true 0 rest ≢ Frame c)
+      → length fs + 1 < 4294967295
       → Prints none b (f ++ joined fs rest) (logBy fs (nextOf true 0 rest))

@@ -29,7 +29,8 @@ abbrev pub isRefused : Outcome → Bool
 isRefused o = elim o [ Setup n ↦ false | Done v ↦ false | Granted j low stars t ↦ false | Refused m t ↦ true ]
 
 -- a count that goes up by one at each line of a kind, and at no other
-module _ (count : Tally → ℕ) (q : Outcome → Bool) (each : (t : Tally) (o : Outcome) → count (counted t o) ≡ cond (q o) (more (count t)) (count t)) where
+module _ (count : Tally → ℕ) (q : Outcome → Bool)
+    (each : (t : Tally) (o : Outcome) → count (counted t o) ≡ cond (q o) (more (count t)) (count t)) where
   one-line : (b : Bool) (t : Tally) (o : Outcome) (k : ℕ) → count (counted t o) ≡ cond b (more (count t)) (count t)
       → min (count (counted t o) + k) 4294967295 ≡ min (count t + (cond b 1 0 + k)) 4294967295
   one-line true t o k e = omega arith
@@ -46,16 +47,21 @@ module _ (count : Tally → ℕ) (q : Outcome → Bool) (each : (t : Tally) (o :
   from-none : count none ≡ 0 → (os : List Outcome) → count (countedAll none os) ≡ min (howMany q os) 4294967295
   from-none z os = from-here none os (omega arith) ∙ (rw z (omega arith))
 
--- a fact that holds of each outcome by computation
-by-outcome : (P : Outcome → Type 0) → ((n : ℕ) → P (Setup n)) → ((v : ℕ) → P (Done v)) → ((j low stars t : ℕ) → P (Granted j low stars t))
-    → ((m t : ℕ) → P (Refused m t)) → (o : Outcome) → P o
-by-outcome P s d g r (Setup n) = s n
-by-outcome P s d g r (Done v) = d v
-by-outcome P s d g r (Granted j low stars t) = g j low stars t
-by-outcome P s d g r (Refused m t) = r m t
+-- the same, where the count goes up by computation for each outcome
+module _ (count : Tally → ℕ) (q : Outcome → Bool) where
+  abbrev GoesUp : Tally → Outcome → Type 0
+  GoesUp t o = count (counted t o) ≡ cond (q o) (more (count t)) (count t)
 
-abbrev GoesUp : (Tally → ℕ) → (Outcome → Bool) → Tally → Outcome → Type 0
-GoesUp count q t o = count (counted t o) ≡ cond (q o) (more (count t)) (count t)
+  counts : count none ≡ 0 → ((t : Tally) (n : ℕ) → GoesUp t (Setup n)) → ((t : Tally) (v : ℕ) → GoesUp t (Done v))
+      → ((t : Tally) (j low stars k : ℕ) → GoesUp t (Granted j low stars k)) → ((t : Tally) (m k : ℕ) → GoesUp t (Refused m k))
+      → (os : List Outcome) → count (countedAll none os) ≡ min (howMany q os) 4294967295
+  counts z s d g r = from-none count q each z
+    where
+      each : (t : Tally) (o : Outcome) → GoesUp t o
+      each t (Setup n) = s t n
+      each t (Done v) = d t v
+      each t (Granted j low stars k) = g t j low stars k
+      each t (Refused m k) = r t m k
 
 every-line : (os : List Outcome) → howMany (λ o. true) os ≡ length os
 every-line [] = refl
@@ -63,21 +69,16 @@ every-line (o ∷ os) = omega (arith, every-line os)
 
 module _ (os : List Outcome) where
   pub total-is : (countedAll none os) .total ≡ min (length os) 4294967295
-  total-is = rw (← every-line os)
-      (from-none (λ t. t .total) (λ o. true) (λ t. by-outcome (GoesUp (λ t. t .total) (λ o. true) t) (λ n. refl) (λ v. refl) (λ j low stars k. refl) (λ m k. refl)) refl os)
+  total-is = rw (← every-line os) (counts (λ t. t .total) (λ o. true) refl (λ t n. refl) (λ t v. refl) (λ t j low stars k. refl) (λ t m k. refl) os)
 
   pub setup-is : (countedAll none os) .setup ≡ min (howMany isSetup os) 4294967295
-  setup-is =
-      from-none (λ t. t .setup) isSetup (λ t. by-outcome (GoesUp (λ t. t .setup) isSetup t) (λ n. refl) (λ v. refl) (λ j low stars k. refl) (λ m k. refl)) refl os
+  setup-is = counts (λ t. t .setup) isSetup refl (λ t n. refl) (λ t v. refl) (λ t j low stars k. refl) (λ t m k. refl) os
 
   pub done-is : (countedAll none os) .done ≡ min (howMany isDone os) 4294967295
-  done-is =
-      from-none (λ t. t .done) isDone (λ t. by-outcome (GoesUp (λ t. t .done) isDone t) (λ n. refl) (λ v. refl) (λ j low stars k. refl) (λ m k. refl)) refl os
+  done-is = counts (λ t. t .done) isDone refl (λ t n. refl) (λ t v. refl) (λ t j low stars k. refl) (λ t m k. refl) os
 
   pub granted-is : (countedAll none os) .granted ≡ min (howMany isGranted os) 4294967295
-  granted-is =
-      from-none (λ t. t .granted) isGranted (λ t. by-outcome (GoesUp (λ t. t .granted) isGranted t) (λ n. refl) (λ v. refl) (λ j low stars k. refl) (λ m k. refl)) refl os
+  granted-is = counts (λ t. t .granted) isGranted refl (λ t n. refl) (λ t v. refl) (λ t j low stars k. refl) (λ t m k. refl) os
 
   pub refused-is : (countedAll none os) .refused ≡ min (howMany isRefused os) 4294967295
-  refused-is =
-      from-none (λ t. t .refused) isRefused (λ t. by-outcome (GoesUp (λ t. t .refused) isRefused t) (λ n. refl) (λ v. refl) (λ j low stars k. refl) (λ m k. refl)) refl os
+  refused-is = counts (λ t. t .refused) isRefused refl (λ t n. refl) (λ t v. refl) (λ t j low stars k. refl) (λ t m k. refl) os

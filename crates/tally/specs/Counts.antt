@@ -16,8 +16,8 @@ none = record { total = 0; setup = 0; done = 0; granted = 0; refused = 0 }
 abbrev pub counted : Tally → Outcome → Tally
 counted t (Setup n) = record { total = more (t .total); setup = more (t .setup); done = t .done; granted = t .granted; refused = t .refused }
 counted t (Done v) = record { total = more (t .total); setup = t .setup; done = more (t .done); granted = t .granted; refused = t .refused }
-counted t (Granted j low stars tried) = record { total = more (t .total); setup = t .setup; done = t .done; granted = more (t .granted); refused = t .refused }
-counted t (Refused m tried) = record { total = more (t .total); setup = t .setup; done = t .done; granted = t .granted; refused = more (t .refused) }
+counted t (Granted j low stars k) = record { total = more (t .total); setup = t .setup; done = t .done; granted = more (t .granted); refused = t .refused }
+counted t (Refused m k) = record { total = more (t .total); setup = t .setup; done = t .done; granted = t .granted; refused = more (t .refused) }
 
 -- the counts of a list of lines, the first at its head, from the counts t on
 abbrev pub countedAll : Tally → List Outcome → Tally

@@ -26,10 +26,20 @@ same-length-3 : tie.Need-same-length-3
 same-length-3 c = search needs
 
 returns : tie.Need-returns
-returns c = record { at = at-kept _ _ _ _ _ _ _ _ (c .before .before .before .before .before .before .before .before .before .before .before .before .before .pre) (c .before .before .before .before .before .run .ensures); filled = c .before .before .before .before .before .before .before .before .before .before .before .before .before .pre .filled; put = put-kept _ _ _ _ _ _ _ _ (c .before .before .before .before .before .before .before .before .before .before .before .before .before .pre) (c .before .before .before .before .before .run .ensures) }
+returns c =
+    let at-run = c .before .before .before .before .before in
+    let start = at-run .before .before .before .before .before .before .before .before in
+    record {
+      at = at-kept _ _ _ _ _ _ _ _ (start .pre) (at-run .run .ensures);
+      filled = start .pre .filled;
+      put = put-kept _ _ _ _ _ _ _ _ (start .pre) (at-run .run .ensures);
+    }
 
 refill-requires : tie.Need-refill-requires
-refill-requires c κs = (at-kept _ _ _ _ _ _ _ _ (c .before .before .before .before .before .before .before .before .before .before .before .before .before .before .before .pre) (c .before .before .before .before .before .before .before .run .ensures), c .before .before .before .before .before .before .before .before .before .before .before .before .before .before .before .pre .filled)
+refill-requires c κs =
+    let at-run = c .before .before .before .before .before .before .before in
+    let start = at-run .before .before .before .before .before .before .before .before in
+    (at-kept _ _ _ _ _ _ _ _ (start .pre) (at-run .run .ensures), start .pre .filled)
 
 same-length-4 : tie.Need-same-length-4
 same-length-4 c = search needs
@@ -41,10 +51,18 @@ same-length-6 : tie.Need-same-length-6
 same-length-6 c = search needs
 
 returns-2 : tie.Need-returns-2
-returns-2 c = let e = c .before .before .refill .ensures in lower _ _ _ _ (e .0) (e .1 .0) (e .1 .1) (put-kept _ _ _ _ _ _ _ _ (c .before .before .before .before .before .before .before .before .before .before .before .before .before .before .before .before .before .before .pre) (c .before .before .before .before .before .before .before .before .before .before .run .ensures))
+returns-2 c =
+    let at-refill = c .before .before in
+    let at-run = at-refill .before .before .before .before .before .before .before .before in
+    let start = at-run .before .before .before .before .before .before .before .before in
+    let e = at-refill .refill .ensures in
+    lower _ _ _ _ (e .0) (e .1 .0) (e .1 .1) (put-kept _ _ _ _ _ _ _ _ (start .pre) (at-run .run .ensures))
 
 flush-requires : tie.Need-flush-requires
-flush-requires c κs = put-left _ _ _ _ _ _ _ _ (c .before .before .before .before .before .before .before .before .before .before .before .before .before .before .before .pre) (c .before .before .before .before .before .before .before .run .ensures)
+flush-requires c κs =
+    let at-run = c .before .before .before .before .before .before .before in
+    let start = at-run .before .before .before .before .before .before .before .before in
+    put-left _ _ _ _ _ _ _ _ (start .pre) (at-run .run .ensures)
 
 same-length-7 : tie.Need-same-length-7
 same-length-7 c = search needs
@@ -57,8 +75,11 @@ same-length-9 c = search needs
 
 returns-3 : tie.Need-returns-3
 returns-3 c =
+    let at-run = c .before .before .before .before .before .before .before .before in
+    let start = at-run .before .before .before .before .before .before .before .before in
     let e = c .flush .ensures in
-    lower _ _ _ _ (rw (e .0, e .1 .0) (at-kept _ _ _ _ _ _ _ _ (c .before .before .before .before .before .before .before .before .before .before .before .before .before .before .before .before .pre) (c .before .before .before .before .before .before .before .before .run .ensures))) (rw (e .1 .0) (c .before .before .before .before .before .before .before .before .before .before .before .before .before .before .before .before .pre .filled)) (e .1 .1) (omega arith)
+    lower _ _ _ _ (rw (e .0, e .1 .0) (at-kept _ _ _ _ _ _ _ _ (start .pre) (at-run .run .ensures))) (rw (e .1 .0) (start .pre .filled)) (e .1 .1)
+    (omega arith)
 
 pub advance-spec : {M : Type 1} → statement M
 advance-spec =

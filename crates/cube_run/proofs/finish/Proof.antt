@@ -13,10 +13,16 @@ put-totals-requires : tie.Need-put-totals-requires
 put-totals-requires c κs = search needs
 
 slice-reshare-prefix-write : tie.Need-slice-reshare-prefix-write
-slice-reshare-prefix-write c = ends-inside _ _ _ _ _ (c .before .before .put-totals .ensures) (c .before .before .before .before .before .before .before .pre)
+slice-reshare-prefix-write c =
+    let at-put-totals = c .before .before in
+    let start = at-put-totals .before .before .before .before .before in
+    ends-inside _ _ _ _ _ (at-put-totals .put-totals .ensures) (start .pre)
 
 slice-aggregate-write : tie.Need-slice-aggregate-write
-slice-aggregate-write c = sym (length-take-le _ _ (ends-inside _ _ _ _ _ (c .before .before .before .put-totals .ensures) (c .before .before .before .before .before .before .before .before .pre)))
+slice-aggregate-write c =
+    let at-put-totals = c .before .before .before in
+    let start = at-put-totals .before .before .before .before .before in
+    sym (length-take-le _ _ (ends-inside _ _ _ _ _ (at-put-totals .put-totals .ensures) (start .pre)))
 
 write-requires : tie.Need-write-requires
 write-requires c κs = search needs

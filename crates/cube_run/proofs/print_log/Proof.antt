@@ -17,7 +17,11 @@ run-all-requires : tie.Need-run-all-requires
 run-all-requires c κs = search needs
 
 finish-requires : tie.Need-finish-requires
-finish-requires c κs = room (c .before .before .before .before .before .before .before .before .before .before .before .before .before .before .args .out .now) (c .before .before .before .before .before .before .before .run-all .last .1 .1 .0) _ (c .before .before .before .before .before .before .before .before .before .before .before .before .before .before .pre) (c .before .before .before .before .before .before .before .run-all .kept .1 .1 .0) (c .before .before .before .before .before .before .before .run-all .ensures)
+finish-requires c κs =
+    let at-run-all = c .before .before .before .before .before .before .before in
+    let start = at-run-all .before .before .before .before .before .before .before in
+    room (start .args .out .now) (at-run-all .run-all .last .1 .1 .0) _ (start .pre) (at-run-all .run-all .kept .1 .1 .0)
+    (at-run-all .run-all .ensures)
 
 same-length : tie.Need-same-length
 same-length c = search needs

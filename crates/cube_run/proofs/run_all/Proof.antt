@@ -1,5 +1,4 @@
 -- `cube_run::run_all` is safe, ends, and keeps its places in the buffers. Assumes nothing.
-use Prim.Native.Nat.{_≤_}
 use mathlib.Core.Path.{_≡_, refl, _∙_}
 use native.Mathlib.Omega.{arith}
 use lib.ListN.{length}
@@ -8,7 +7,8 @@ use Rattle.cube_run.proofs.run_all.Statement.{statement}
 use Rattle.cube_run.proofs.run_all.Tie as tie
 
 abbrev Inv-loop : tie.InvT-loop
-Inv-loop rec₀ window₀ out₀ s₀ turns₀ rec window out s turns = Ready s (length window) (length out) × ((length rec ≡ length rec₀) × ((length window ≡ length window₀) × (length out ≡ length out₀)))
+Inv-loop rec₀ window₀ out₀ s₀ turns₀ rec window out s turns =
+    Ready s (length window) (length out) × ((length rec ≡ length rec₀) × ((length window ≡ length window₀) × (length out ≡ length out₀)))
 
 abbrev μ-loop : tie.MeasureT-loop
 μ-loop rec₀ window₀ out₀ s₀ turns₀ rec window out s turns = turns
@@ -34,9 +34,11 @@ loop-less c = omega arith
 
 loop-again : tie.Need-loop-again Inv-loop μ-loop
 loop-again c =
-    let k = c .before .before .before .before .before .before .advance .kept in
-    let i = c .before .before .before .before .before .before .before .before .before .before .before .before .before .loop .inv .1 in
-    (rw (k .1 .0, k .1 .1 .0) (c .before .before .before .before .before .before .advance .ensures), (k .0 ∙ i .0, (k .1 .0 ∙ i .1 .0, k .1 .1 .0 ∙ i .1 .1)))
+    let at-advance = c .before .before .before .before .before .before in
+    let at-loop = at-advance .before .before .before .before .before .before .before in
+    let k = at-advance .advance .kept in
+    let i = at-loop .loop .inv .1 in
+    (rw (k .1 .0, k .1 .1 .0) (at-advance .advance .ensures), (k .0 ∙ i .0, (k .1 .0 ∙ i .1 .0, k .1 .1 .0 ∙ i .1 .1)))
 
 same-length : tie.Need-same-length Inv-loop μ-loop
 same-length c = c .before .before .before .loop .inv .1 .0

@@ -56,7 +56,8 @@ put-number-same-length-2 t c = omega arith
 put-number-returns-2 : (t : ℕ) → put-number-lts.Need-returns-2 (claims t) (put-number-at t) put-number.Post
 put-number-returns-2 t c =
     let read = c .before .before .before in
-    number-more _ _ (omega arith) (omega arith) (read .digit-of2 .ensures) (read .before .before .before .before .put-number .ensures) (c .before .before .put-byte2 .ensures)
+    number-more _ _ (omega arith) (omega arith) (read .digit-of2 .ensures) (read .before .before .before .before .put-number .ensures)
+    (c .before .before .put-byte2 .ensures)
 
 pub +put-number-spec : {M : Type 1} → statement M
 +put-number-spec = close μ-put-number λ t. put-number-lts.spec (claims t) (put-number-at t) put-number.Post

@@ -102,15 +102,23 @@ same-length-3 c = search needs
 
 returns-3 : tie.Need-returns-3
 returns-3 c =
-    said-put _ _ (c .before .before .before .before .before .before .before .before .before .before .before .before .before .before .before .before .before .before .before .before .before .o3 .given .1)
-    (item-then _ (c .before .before .before .before .before .before .before .before .before .before .before .before .before .before .before .before .before .put-item .ensures)
-    (item-then _ (c .before .before .before .before .before .before .before .before .before .before .before .before .put-item2 .ensures) (item-then _ (c .before .before .before .before .before .before .before .put-item3 .ensures) (c .before .before .put-last3 .ensures))))
+    let at-put-last3 = c .before .before in
+    let at-put-item3 = at-put-last3 .before .before .before .before .before in
+    let at-put-item2 = at-put-item3 .before .before .before .before .before in
+    let at-put-item = at-put-item2 .before .before .before .before .before in
+    let at-o3 = at-put-item .before .before .before .before in
+    said-put _ _ (at-o3 .o3 .given .1) (item-then _ (at-put-item .put-item .ensures)
+    (item-then _ (at-put-item2 .put-item2 .ensures) (item-then _ (at-put-item3 .put-item3 .ensures) (at-put-last3 .put-last3 .ensures))))
 
 same-length-4 : tie.Need-same-length-4
 same-length-4 c = search needs
 
 returns-4 : tie.Need-returns-4
-returns-4 c = said-put _ _ (c .before .before .before .before .before .before .before .before .before .before .before .o4 .given .1) (item-then _ (c .before .before .before .before .before .before .before .put-item4 .ensures) (c .before .before .put-last4 .ensures))
+returns-4 c =
+    let at-put-last4 = c .before .before in
+    let at-put-item4 = at-put-last4 .before .before .before .before .before in
+    let at-o4 = at-put-item4 .before .before .before .before in
+    said-put _ _ (at-o4 .o4 .given .1) (item-then _ (at-put-item4 .put-item4 .ensures) (at-put-last4 .put-last4 .ensures))
 
 pub put-outcome-spec : {M : Type 1} → statement M
 put-outcome-spec =

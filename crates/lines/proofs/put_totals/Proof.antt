@@ -41,9 +41,13 @@ same-length c = search needs
 returns : tie.Need-returns
 unfolding totalsOf
 returns c =
-    item-then _ (c .before .before .before .before .before .before .before .before .before .before .before .before .before .before .before .before .before .before .before .before .before .before .put-item .ensures)
-    (item-then _ (c .before .before .before .before .before .before .before .before .before .before .before .before .before .before .before .before .before .put-item2 .ensures)
-    (item-then _ (c .before .before .before .before .before .before .before .before .before .before .before .before .put-item3 .ensures) (item-then _ (c .before .before .before .before .before .before .before .put-item4 .ensures) (c .before .before .put-last .ensures))))
+    let at-put-last = c .before .before in
+    let at-put-item4 = at-put-last .before .before .before .before .before in
+    let at-put-item3 = at-put-item4 .before .before .before .before .before in
+    let at-put-item2 = at-put-item3 .before .before .before .before .before in
+    let at-put-item = at-put-item2 .before .before .before .before .before in
+    item-then _ (at-put-item .put-item .ensures) (item-then _ (at-put-item2 .put-item2 .ensures)
+    (item-then _ (at-put-item3 .put-item3 .ensures) (item-then _ (at-put-item4 .put-item4 .ensures) (at-put-last .put-last .ensures))))
 
 pub put-totals-spec : {M : Type 1} → statement M
 put-totals-spec =

@@ -1,7 +1,6 @@
 -- `log::next_frame` meets its contract. Assumes nothing.
 use borrow.Author.Needs.{needs}
-use mathlib.Core.Path.{sym, _∙_, ap}
-use mathlib.Core.Bool.{Bool, cond}
+use mathlib.Core.Path.{sym, _∙_}
 use native.Mathlib.Omega.{arith}
 use lib.ListN.{length-drop}
 use Rattle.log.proofs.Nexts.{word-drop, next-none, next-lone, next-under, next-past, next-whole}
@@ -36,13 +35,18 @@ unfinished-requires-2 : tie.Need-unfinished-requires-2
 unfinished-requires-2 c κs = search needs
 
 returns-5 : tie.Need-returns-5
-returns-5 c = c .unfinished2 .ensures ∙ sym (next-past _ _ _ (rw length-drop (omega arith)) (rw word-drop (omega arith)) (rw (length-drop, word-drop) (omega arith)))
+returns-5 c =
+    c .unfinished2 .ensures ∙ sym (next-past _ _ _ (rw length-drop (omega arith)) (rw word-drop (omega arith))
+    (rw (length-drop, word-drop) (omega arith)))
 
 add-t12 : tie.Need-add-t12
 add-t12 c = search needs
 
 returns-6 : tie.Need-returns-6
-returns-6 c = rw (c .before .before .word .ensures, ← word-drop) (sym (next-whole _ _ _ (rw length-drop (omega arith)) (rw word-drop (omega arith)) (rw (length-drop, word-drop) (omega arith))))
+returns-6 c =
+    let at-word = c .before .before in
+    rw (at-word .word .ensures, ← word-drop) (sym (next-whole _ _ _ (rw length-drop (omega arith)) (rw word-drop (omega arith))
+    (rw (length-drop, word-drop) (omega arith))))
 
 pub next-frame-spec : {M : Type 1} → statement M
 next-frame-spec =

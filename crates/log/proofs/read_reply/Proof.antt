@@ -28,7 +28,10 @@ word-requires-6 c κs = search needs
 
 returns-2 : tie.Need-returns-2
 returns-2 c =
-    reply-granted _ _ _ _ _ _ (omega arith) (omega arith) (c .before .before .before .word3 .ensures) (c .before .before .word4 .ensures) (c .before .word5 .ensures) (c .word6 .ensures)
+    let at-word4 = c .before .before in
+    let at-word3 = at-word4 .before in
+    reply-granted _ _ _ _ _ _ (omega arith) (omega arith) (at-word3 .word3 .ensures) (at-word4 .word4 .ensures) (c .before .word5 .ensures)
+    (c .word6 .ensures)
 
 word-requires-7 : tie.Need-word-requires-7
 word-requires-7 c κs = search needs

@@ -39,7 +39,10 @@ same-length : tie.Need-same-length
 same-length c = search needs
 
 returns-5 : tie.Need-returns-5
-returns-5 c = first-set-up _ _ (omega arith) (omega arith) (omega arith) (omega arith) _ _ _ (c .before .before .before .word3 .ensures) (c .before .before .cube-setup .ensures)
+returns-5 c =
+    let at-cube-setup = c .before .before in
+    let at-word3 = at-cube-setup .before in
+    first-set-up _ _ (omega arith) (omega arith) (omega arith) (omega arith) _ _ _ (at-word3 .word3 .ensures) (at-cube-setup .cube-setup .ensures)
 
 pub set-up-spec : {M : Type 1} → statement M
 set-up-spec =

@@ -1,7 +1,5 @@
 -- `log::take_step` meets its contract. Assumes nothing.
 use borrow.Author.Needs.{needs}
-use mathlib.Core.Path.{refl}
-use native.Mathlib.Omega.{arith}
 use Rattle.log.proofs.Stepping.{within, step-full, step-by, step-frame}
 use Rattle.log.proofs.take_step.Statement.{statement}
 use Rattle.log.proofs.take_step.Tie as tie
@@ -41,7 +39,11 @@ same-length c = search needs
 
 returns-2 : tie.Need-returns-2
 returns-2 c =
-    step-frame _ _ _ _ _ (c .before .before .before .before .before .before .before .before .before .if1 .left) _ _ (c .before .before .before .before .before .before .before .before .next-frame .ensures) (c .before .before .before .before .before .before .ahead .given .1) _ _ (c .before .before .on-frame .ensures)
+    let at-on-frame = c .before .before in
+    let at-ahead = at-on-frame .before .before .before .before in
+    let at-next-frame = at-ahead .before .before in
+    let at-if1 = at-next-frame .before in
+    step-frame _ _ _ _ _ (at-if1 .if1 .left) _ _ (at-next-frame .next-frame .ensures) (at-ahead .ahead .given .1) _ _ (at-on-frame .on-frame .ensures)
 
 returns-3 : tie.Need-returns-3
 returns-3 c =

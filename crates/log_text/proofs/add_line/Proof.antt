@@ -1,6 +1,6 @@
 -- `log_text::add_line` meets its contract. Assumes nothing.
 use borrow.Author.Needs.{needs}
-use mathlib.Core.Path.{refl, ap}
+use mathlib.Core.Path.{refl}
 use Rattle.log_text.proofs.add_line.Statement.{statement}
 use Rattle.log_text.proofs.add_line.Tie as tie
 

@@ -1,7 +1,6 @@
 -- `log_text::run` meets its contract: each step is a part of the log, and leaves less of the window or stops. Assumes nothing.
 use mathlib.Core.Path.{_≡_, refl, _∙_}
 use lib.ListN.{length}
-use native.Mathlib.Omega.{arith}
 use Rattle.log_text.proofs.Running.{goes, Running, running-start, running-more, left, left-falls, ran}
 use Rattle.log_text.proofs.run.Statement.{statement}
 use Rattle.log_text.proofs.run.Tie as tie
@@ -19,13 +18,25 @@ goes-on-requires : tie.Need-goes-on-requires Inv-loop μ-loop
 goes-on-requires c κs = tt
 
 turn-requires : tie.Need-turn-requires Inv-loop μ-loop
-turn-requires c κs = let O = goes (c .before .before .before .before .loop .q) _ _ (c .before .before .before .goes-on .ensures) (c .before .before .if1 .taken) in (O .runs, O .room)
+turn-requires c κs =
+    let at-if1 = c .before .before in
+    let at-goes-on = at-if1 .before in
+    let at-loop = at-goes-on .before in
+    let O = goes (at-loop .loop .q) _ _ (at-goes-on .goes-on .ensures) (at-if1 .if1 .taken) in (O .runs, O .room)
 
 loop-less : tie.Need-loop-less Inv-loop μ-loop
-loop-less c = left-falls _ _ (goes (c .before .before .before .before .before .before .before .before .before .loop .q) _ _ (c .before .before .before .before .before .before .before .before .goes-on .ensures) (c .before .before .before .before .before .before .before .if1 .taken)) (c .before .before .before .before .turn .ensures)
+loop-less c =
+    let at-turn = c .before .before .before .before in
+    let at-if1 = at-turn .before .before .before in
+    let at-goes-on = at-if1 .before in
+    let at-loop = at-goes-on .before in
+    left-falls _ _ (goes (at-loop .loop .q) _ _ (at-goes-on .goes-on .ensures) (at-if1 .if1 .taken)) (at-turn .turn .ensures)
 
 loop-again : tie.Need-loop-again Inv-loop μ-loop
-loop-again c = (running-more _ _ (c .before .before .before .before .before .before .before .before .before .loop .inv .0) (c .before .before .before .before .turn .ensures), c .before .before .before .before .turn .kept .0 ∙ c .before .before .before .before .before .before .before .before .before .loop .inv .1)
+loop-again c =
+    let at-turn = c .before .before .before .before in
+    let at-loop = at-turn .before .before .before .before .before in
+    (running-more _ _ (at-loop .loop .inv .0) (at-turn .turn .ensures), at-turn .turn .kept .0 ∙ at-loop .loop .inv .1)
 
 same-length : tie.Need-same-length Inv-loop μ-loop
 same-length c = c .before .before .loop .inv .1

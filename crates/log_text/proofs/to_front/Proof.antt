@@ -36,7 +36,9 @@ same-length : tie.Need-same-length Inv-loop μ-loop
 same-length c = omega arith
 
 returns : tie.Need-returns Inv-loop μ-loop
-returns c = let l = c .before .loop in fronted-end _ (l .window) (c .before .before .args .at) (l .i) (c .before .before .args .count) (omega arith) (omega arith) (l .inv)
+returns c =
+    let start = c .before .before in
+    let l = c .before .loop in fronted-end _ (l .window) (start .args .at) (l .i) (start .args .count) (omega arith) (omega arith) (l .inv)
 
 pub to-front-spec : {M : Type 1} → statement M
 to-front-spec =

@@ -33,7 +33,12 @@ same-length-2 c = search needs
 
 returns : tie.Need-returns
 returns c =
-    turned-line _ _ _ _ _ _ _ (c .before .before .before .before .before .before .before .before .before .before .before .before .before .before .before .pre .0) (c .before .before .before .before .before .before .before .before .before .take-step .ensures) (c .before .before .before .before .before .before .before .before .before .before .before .before .before .before .before .pre .1) _ _ _ _ (c .before .before .before .before .before .s .given .1) (c .before .before .add-line .ensures)
+    let at-add-line = c .before .before in
+    let at-s = at-add-line .before .before .before in
+    let at-take-step = at-s .before .before .before .before in
+    let start = at-take-step .before .before .before .before .before .before in
+    turned-line _ _ _ _ _ _ _ (start .pre .0) (at-take-step .take-step .ensures) (start .pre .1) _ _ _ _ (at-s .s .given .1)
+    (at-add-line .add-line .ensures)
 
 same-length-3 : tie.Need-same-length-3
 same-length-3 c = search needs
@@ -43,19 +48,30 @@ same-length-4 c = search needs
 
 returns-2 : tie.Need-returns-2
 returns-2 c =
-    turned-last _ _ _ _ _ _ _ (c .before .before .before .before .before .before .before .before .before .before .before .before .before .before .before .pre .0) (c .before .before .before .before .before .before .before .before .before .take-step .ensures) (c .before .before .before .before .before .before .before .before .before .before .before .before .before .before .before .pre .1) _ _ _ (c .before .before .before .before .before .s2 .given .1) (c .before .before .add-line2 .ensures)
+    let at-add-line2 = c .before .before in
+    let at-s2 = at-add-line2 .before .before .before in
+    let at-take-step = at-s2 .before .before .before .before in
+    let start = at-take-step .before .before .before .before .before .before in
+    turned-last _ _ _ _ _ _ _ (start .pre .0) (at-take-step .take-step .ensures) (start .pre .1) _ _ _ (at-s2 .s2 .given .1)
+    (at-add-line2 .add-line2 .ensures)
 
 same-length-5 : tie.Need-same-length-5
 same-length-5 c = search needs
 
 returns-3 : tie.Need-returns-3
-returns-3 c = turned-more _ _ _ _ _ _ _ (c .before .before .before .before .before .before .before .before .before .before .pre .0) (c .before .before .before .before .take-step .ensures) (c .enum-told .given .1)
+returns-3 c =
+    let at-take-step = c .before .before .before .before in
+    let start = at-take-step .before .before .before .before .before .before in
+    turned-more _ _ _ _ _ _ _ (start .pre .0) (at-take-step .take-step .ensures) (c .enum-told .given .1)
 
 same-length-6 : tie.Need-same-length-6
 same-length-6 c = search needs
 
 returns-4 : tie.Need-returns-4
-returns-4 c = turned-end _ _ _ _ _ _ _ (c .before .before .before .before .before .before .before .before .before .before .pre .0) (c .before .before .before .before .take-step .ensures) (c .enum-told2 .given .1)
+returns-4 c =
+    let at-take-step = c .before .before .before .before in
+    let start = at-take-step .before .before .before .before .before .before in
+    turned-end _ _ _ _ _ _ _ (start .pre .0) (at-take-step .take-step .ensures) (c .enum-told2 .given .1)
 
 pub turn-spec : {M : Type 1} → statement M
 turn-spec =
