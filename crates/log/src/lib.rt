@@ -2,9 +2,7 @@
 use tally::Outcome;
 ghost use mathlib.Core.Path.{_≡_};
 ghost use mathlib.Core.Bool.{cond};
-ghost use Prim.Native.Nat.{_+_, _<_};
 ghost use lib.ListN.{length, drop};
-ghost use Rattle.history.specs.Calls.{word};
 ghost use Rattle.log.specs.declared.Next.the-variants.{Broken, More};
 ghost use Rattle.log.specs.Next.{nextOf};
 ghost use Rattle.log.specs.Frames.{First, Later, readReply};
