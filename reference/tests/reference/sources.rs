@@ -10,10 +10,10 @@ fn binary(words: &str) -> Vec<u32> {
     words.split_whitespace().map(|word| u32::from_str_radix(word, 2).unwrap()).collect()
 }
 
-/// Addresses such as 0X1X, highest bit first.
+/// Addresses such as 0*1*, highest bit first, a star for each free bit.
 fn addresses(words: &str) -> Vec<Subcube> {
-    let low = |word: &str| binary(&word.replace('X', "0"))[0];
-    let high = |word: &str| binary(&word.replace('X', "1"))[0];
+    let low = |word: &str| binary(&word.replace('*', "0"))[0];
+    let high = |word: &str| binary(&word.replace('*', "1"))[0];
     words.split_whitespace().map(|w| Subcube { low: low(w), stars: low(w) ^ high(w) }).collect()
 }
 
@@ -85,9 +85,9 @@ fn g_of_b_is_the_code_whose_ranks_ascend() {
 
 #[test]
 fn example_18_families_of_a_4_cube() {
-    let buddy = "00XX 01XX 10XX 11XX";
-    let gray = "00XX 0X1X 01XX X10X 11XX 1X1X 10XX X00X";
-    let tree = "00XX 0X0X X00X 0X1X X01X 01XX X10X X11X 10XX 1X0X 1X1X 11XX";
+    let buddy = "00** 01** 10** 11**";
+    let gray = "00** 0*1* 01** *10* 11** 1*1* 10** *00*";
+    let tree = "00** 0*0* *00* 0*1* *01* 01** *10* *11* 10** 1*0* 1*1* 11**";
     assert_eq!(family(BUDDY, 4, 2), addresses(buddy));
     assert_eq!(family(GRAY, 4, 2), addresses(gray));
     assert_eq!(family(TREE, 4, 2), addresses(tree));
@@ -95,7 +95,7 @@ fn example_18_families_of_a_4_cube() {
     assert_eq!(extended.len(), 20);
     assert_eq!(extended[..12], addresses(tree));
     // The list (d) is two columns; document 01 orders by a, then p.
-    assert_eq!(extended[12..], addresses("X0X0 XX00 X0X1 XX01 XX10 XX11 X1X0 X1X1"));
+    assert_eq!(extended[12..], addresses("*0*0 **00 *0*1 **01 **10 **11 *1*0 *1*1"));
 }
 
 #[test]
@@ -104,10 +104,10 @@ fn example_17_families_of_a_5_cube() {
         members.sort();
         members
     };
-    let figure_10 = "00XXX 0X0XX X00XX 01XXX 0X1XX X01XX \
-                     10XXX 1X0XX X10XX 11XXX 1X1XX X11XX";
-    let figure_11 = "X0X0X XX00X X0X1X XX01X X1X0X XX10X X1X1X XX11X \
-                     XX0X0 XXX00 XX0X1 XXX01 XX1X0 XXX10 XX1X1 XXX11";
+    let figure_10 = "00*** 0*0** *00** 01*** 0*1** *01** \
+                     10*** 1*0** *10** 11*** 1*1** *11**";
+    let figure_11 = "*0*0* **00* *0*1* **01* *1*0* **10* *1*1* **11* \
+                     **0*0 ***00 **0*1 ***01 **1*0 ***10 **1*1 ***11";
     let extended = family(EXTENDED, 5, 3);
     assert_eq!(sorted(family(TREE, 5, 3)), sorted(addresses(figure_10)));
     assert_eq!(sorted(extended[..12].to_vec()), sorted(addresses(figure_10)));
