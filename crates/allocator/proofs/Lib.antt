@@ -1,4 +1,2 @@
--- The laws of the six calls on a record, and on a state by way of one.
-pub mod Ways
-pub mod Keeps
-pub mod Grants
+-- The law of a call on a state by way of its record.
+pub mod ByRecord

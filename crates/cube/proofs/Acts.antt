@@ -27,7 +27,7 @@ use Rattle.state.specs.declared.Reply.{Reply}
 use Rattle.state.specs.declared.Reply.the-variants.{Granted, Refused, Done}
 use Rattle.state.specs.declared.Step.{Step}
 use Rattle.state.specs.States as states
-use Rattle.state.specs.Acts.{numberOf, step, refuse, nodeCount, holds, anyHeld, goodStep, faultStep, repairedStep, relabelStep, grantStep, requestStep, releaseStep}
+use Rattle.state.specs.Acts.{numberOf, step, refuse, nodeCount, holds, anyHeld, reportStep, relabelStep, grantStep, requestStep, releaseStep}
 use Rattle.state.proofs.Valid.{Valid}
 use Rattle.record.proofs.Round.{Sized}
 use Rattle.cube.proofs.Tested.{noneIn, rung, tests}
@@ -67,22 +67,22 @@ module _ (s : State) (z : Sized s) (w : Valid s) (c : Call) where
         let b : nodeField c < length (s .conditions) = rw (z .conditions) (lt-of-lt-of-le (ltb-true (nodeField c) (nodeCount s) l) (pow-mono (w .small))) in
         accepts tt q (ap (withCondition (view s)) (entry-set (s .conditions) (nodeField c) v b) ∙ h)
 
-  pub does-good : kind c ≡ good → Does s c (goodStep s (nodeField c)) (tests (s .n) (view s) c good)
-  unfolding goodStep rung tell accept
+  pub does-good : kind c ≡ good → Does s c (reportStep s (nodeField c) 1) (tests (s .n) (view s) c good)
+  unfolding reportStep rung tell accept
   does-good e =
       cases (ltb (nodeField c) (nodeCount s))
       (λ l. rw l (cases (eqb (getD (s .conditions) (nodeField c) 0) 2) (λ d. rw d (refuses 12 refl)) (λ d. rw d (reports good e 1 0 l refl refl))))
       (λ l. rw l (refuses 8 refl))
 
-  pub does-fault : kind c ≡ fault → Does s c (faultStep s (nodeField c)) (tests (s .n) (view s) c fault)
-  unfolding faultStep rung tell accept
+  pub does-fault : kind c ≡ fault → Does s c (reportStep s (nodeField c) 2) (tests (s .n) (view s) c fault)
+  unfolding reportStep rung tell accept
   does-fault e =
       cases (ltb (nodeField c) (nodeCount s))
       (λ l. rw l (reports fault e 2 (getD (s .holders) (nodeField c) 0) l refl refl))
       (λ l. rw l (refuses 8 refl))
 
-  pub does-repaired : kind c ≡ repaired → Does s c (repairedStep s (nodeField c)) (tests (s .n) (view s) c repaired)
-  unfolding repairedStep rung tell accept
+  pub does-repaired : kind c ≡ repaired → Does s c (reportStep s (nodeField c) 0) (tests (s .n) (view s) c repaired)
+  unfolding reportStep rung tell accept
   does-repaired e =
       cases (ltb (nodeField c) (nodeCount s))
       (λ l. rw l (cases (eqb (getD (s .conditions) (nodeField c) 0) 2) (λ d. rw d (reports repaired e 0 0 l refl refl)) (λ d. rw d (refuses 12 refl))))

@@ -20,7 +20,7 @@ use Rattle.record.proofs.Round.{Sized, decode-encode, valid-encode}
 use Rattle.frames.specs.declared.Parsed.{Parsed}
 use Rattle.frames.specs.declared.Parsed.the-variants.{Known, Bad}
 use Rattle.frames.specs.Parse.{parsed}
-use Rattle.allocator.proofs.Keeps.{Kept, kept-all, kept, stored-kept}
+use Rattle.steps.proofs.Keeps.{Kept, kept-all, kept, stored-kept}
 use Rattle.cube.specs.Called.{stepOf, stepOn, callNumber, callRecord, callReply}
 use Rattle.cube.specs.Run.{Exchange, fed, returns, replies}
 use Rattle.cube.proofs.Tested.{rung, frameTests, cause-tested}

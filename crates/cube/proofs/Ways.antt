@@ -18,7 +18,7 @@ use Rattle.frames.specs.declared.Parsed.{Parsed}
 use Rattle.frames.specs.declared.Parsed.the-variants.{Bad}
 use Rattle.frames.specs.Parse.{parsed}
 use Rattle.frames.specs.Answer.{frameOf, written}
-use Rattle.allocator.proofs.Ways.{refuses}
+use Rattle.steps.proofs.Ways.{refuses}
 use Rattle.cube.specs.Called.{setupNumber, setupRecord, stepOn, callNumber, callRecord, callReply, SetUp, Called}
 use Rattle.cube.specs.Carried.{CarriedFrame}
 

@@ -4,7 +4,7 @@ use Prim.Native.Nat.{ℕ}
 use Rattle.state.specs.declared.Reply.{Reply}
 use Rattle.record.specs.Layout.{decode}
 use Rattle.frames.specs.declared.Parsed.{Parsed}
-use Rattle.allocator.specs.Carried.{Does}
+use Rattle.steps.specs.Carried.{Does}
 use Rattle.cube.specs.Called.{stepOf}
 
 abbrev pub CarriedFrame : List ℕ → Parsed → Reply → List ℕ → Type 0

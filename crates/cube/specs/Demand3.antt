@@ -3,19 +3,19 @@ use Prim.Native.Nat.{ℕ, _+_, _*_, _^_, _<_, _≤_}
 use mathlib.Core.Path.{_≡_}
 use mathlib.Core.Logic.{_↔_, _≢_}
 use mathlib.Core.Bool.{true}
-use mathlib.Core.List.{List, [], _∷_}
+use mathlib.Core.List.{List}
 use lib.ListN.{length, getD}
 use Rattle.hypercube.specs.Lists.{FirstWith}
 use Rattle.hypercube.specs.Labels.{node}
 use Rattle.hypercube.specs.declared.Subcube.{Subcube}
-use Rattle.history.specs.Calls.{Call, request, kind, job, word}
+use Rattle.history.specs.Calls.{request, kind, job, word}
 use Rattle.history.specs.Account.{History, fresh, AllFree}
 use Rattle.history.specs.Causes.{First, NoneMet, NoMemberFree, asked, earlier, causes}
-use Rattle.history.specs.Verdicts.{Verdict, granted, refused, tried, verdict}
+use Rattle.history.specs.Verdicts.{granted, refused, tried, verdict}
 use Rattle.history.specs.Claims.{HeldRight}
 use Rattle.record.specs.Layout.{validRecord}
 use Rattle.cube.specs.Called.{Program}
-use Rattle.cube.specs.Run.{Exchange, Exchanges, begin, _next_, fed, feed, returns, replies, recordAfter, number, reply, heldAt, historyAt}
+use Rattle.cube.specs.Run.{Exchange, Exchanges, _next_, fed, feed, returns, replies, recordAfter, number, reply, heldAt, historyAt}
 
 -- a request is replied 'granted' with its job and the lowest node, star bits and place of the first free member of its family
 pub record Gets (n : ℕ) (h : History) (e : Exchange) (p′ : List ℕ) : Type 0 where

@@ -29,7 +29,7 @@ fn carry_frame(rec: &mut [u8], p: Parsed) -> Reply
     ensures { λ r. ⌜ CarriedFrame (now (rec .entry)) p r (now (rec .exit)) ⌝ }
 {
     match p {
-        Parsed::Known(c) => allocator::call_record(rec, c),
+        Parsed::Known(c) => calls::call_record(rec, c),
         Parsed::Bad(number) => state::refused(number),
     }
 }

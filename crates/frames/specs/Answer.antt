@@ -1,5 +1,5 @@
 -- A reply's bytes. Document 01, "Six calls and their frames", "Replies": "Reply bytes past the frame keep their values."
-use Prim.Native.Nat.{ℕ, _%_, _/_}
+use Prim.Native.Nat.{ℕ}
 use mathlib.Core.List.{List, [], _∷_, _++_}
 use lib.ListN.{length, drop}
 use Rattle.state.specs.declared.Reply.{Reply}

@@ -1,6 +1,6 @@
 -- Any bytes to a call, or to refusal 3, 4 or 5. Document 01, "Six calls and their frames"; the kinds, sizes and fields are the history's.
 use Prim.Native.Nat.{ℕ}
-use mathlib.Core.Bool.{Bool, not, cond, _||_}
+use mathlib.Core.Bool.{not, cond, _||_}
 use mathlib.Core.List.{List}
 use lib.Dec.{eqb, ltb}
 use lib.ListN.{length, getD}

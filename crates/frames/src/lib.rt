@@ -4,7 +4,7 @@ use record::word;
 use state::Call;
 use state::Reply;
 ghost use mathlib.Core.Path.{_≡_};
-ghost use Prim.Native.Nat.{ℕ, _+_, _*_, _≤_, _<_};
+ghost use Prim.Native.Nat.{_+_, _*_, _≤_, _<_};
 ghost use lib.ListN.{length};
 ghost use Rattle.history.specs.Calls.{kindOf, size};
 ghost use Rattle.record.specs.Layout.{words};

@@ -2,9 +2,7 @@
 use Prim.Native.Nat.{ℕ}
 use mathlib.Core.Path.{_≡_, refl, ap}
 use mathlib.Core.List.{List, _++_}
-use Rattle.tally.specs.declared.Outcome.{Outcome}
 use Rattle.tally.specs.declared.Tally.{Tally}
-use Rattle.log.specs.declared.Cursor.{Cursor}
 use Rattle.log_text.specs.Text.{lineAfter, Prints, ends, stops, goes}
 
 pub prints-once : {t : Tally} {r l a b : List ℕ} → Prints t r l a → Prints t r l b → a ≡ b

@@ -1,5 +1,6 @@
 // The nodes' holders and conditions, and the map, read and changed on a record's bytes where they lie.
 use hypercube::Node;
+use labels::Relabelled;
 use record::highest;
 use record::word;
 ghost use mathlib.Core.Path.{_≡_};
@@ -12,6 +13,7 @@ ghost use Rattle.hypercube.specs.Bits.{width};
 ghost use Rattle.hypercube.specs.Lists.{countBelow};
 ghost use Rattle.hypercube.specs.Subcubes.{vertices};
 ghost use Rattle.labels.specs.Flags.{EmptyFrom, byNode};
+ghost use Rattle.labels.specs.Relabelling.{relabelling};
 ghost use Rattle.state.specs.States.{withCondition, withMap, withHolders, given, cleared};
 ghost use Rattle.state.specs.Valid.{anyBelow};
 ghost use Rattle.record.specs.Layout.{encode, decode, Encoded, headRight};
@@ -77,6 +79,15 @@ pub fn set_map(bytes: &mut [u8], map: &[u8; 10])
         set_direction(bytes, d, map[d]);
         d += 1;
     }
+}
+
+// The relabelling over the conditions that a record says.
+pub fn relabelling(bytes: &[u8]) -> Relabelled
+    requires { ⌜ (length (now bytes) ≡ 3088) × (decode (now bytes) .n ≤ 10) ⌝ }
+    ensures { λ r. ⌜ r ≡ relabelling (decode (now (bytes .entry)) .n) (decode (now (bytes .entry)) .conditions) ⌝ }
+{
+    let n = record::dimension(bytes);
+    labels::relabel(n as u16, &bytes[2064..3088])
 }
 
 // Whether any of the nodes below `size` is held: a byte of their holders isn't 0.

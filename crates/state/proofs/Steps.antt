@@ -23,45 +23,25 @@ use Rattle.state.specs.declared.Call.{Call}
 use Rattle.state.specs.declared.Reply.the-variants.{Granted, Refused, Done}
 use Rattle.state.specs.States.{withCondition, withMap, withHolders, given, cleared}
 use Rattle.state.specs.Valid.{anyBelow, valid}
-use Rattle.state.specs.Acts.{step, refuse, nodeCount, holds, anyHeld, goodStep, faultStep, repairedStep, relabelStep, walkOf, grantStep, requestStep, releaseStep, acted, called}
+use Rattle.state.specs.Acts.{step, refuse, nodeCount, holds, anyHeld, allowed, toldOf, reportStep, relabelStep, walkOf, grantStep, requestStep, releaseStep, acted, called}
 use Rattle.state.specs.Tried.{triedIn}
 use Rattle.state.proofs.Below.{any-counted}
 
--- ---- reports of node x
+-- ---- a report that node x is in condition v
 
-module _ (s : State) (x : ℕ) where
-  pub good-8 : nodeCount s ≤ x → refuse s 8 ≡ goodStep s x
-  unfolding goodStep
-  good-8 h = simp (le-ltb _ _ h)
+module _ (s : State) (x v : ℕ) where
+  pub report-8 : nodeCount s ≤ x → refuse s 8 ≡ reportStep s x v
+  unfolding reportStep
+  report-8 h = simp (le-ltb _ _ h)
 
-  pub fault-8 : nodeCount s ≤ x → refuse s 8 ≡ faultStep s x
-  unfolding faultStep
-  fault-8 h = simp (le-ltb _ _ h)
+  module _ (h : x < nodeCount s) {c : ℕ} (e : c ≡ getD (s .conditions) x 0) {b : Bool} (q : b ≡ allowed v c) where
+    pub report-12 : b ≡ false → refuse s 12 ≡ reportStep s x v
+    unfolding reportStep
+    report-12 y = simp (lt-ltb _ _ h, ← e, sym q ∙ y)
 
-  pub repaired-8 : nodeCount s ≤ x → refuse s 8 ≡ repairedStep s x
-  unfolding repairedStep
-  repaired-8 h = simp (le-ltb _ _ h)
-
-  module _ (h : x < nodeCount s) where
-    pub good-12 : getD (s .conditions) x 0 ≡ 2 → refuse s 12 ≡ goodStep s x
-    unfolding goodStep
-    good-12 e = simp (lt-ltb _ _ h, eq-eqb _ _ e)
-
-    pub good-done : getD (s .conditions) x 0 ≢ 2 → step (withCondition s x 1) (Done 0) ≡ goodStep s x
-    unfolding goodStep
-    good-done e = simp (lt-ltb _ _ h, ne-eqb _ _ e)
-
-    pub fault-done : step (withCondition s x 2) (Done (getD (s .holders) x 0)) ≡ faultStep s x
-    unfolding faultStep
-    fault-done = simp (lt-ltb _ _ h)
-
-    pub repaired-12 : getD (s .conditions) x 0 ≢ 2 → refuse s 12 ≡ repairedStep s x
-    unfolding repairedStep
-    repaired-12 e = simp (lt-ltb _ _ h, ne-eqb _ _ e)
-
-    pub repaired-done : getD (s .conditions) x 0 ≡ 2 → step (withCondition s x 0) (Done 0) ≡ repairedStep s x
-    unfolding repairedStep
-    repaired-done e = simp (lt-ltb _ _ h, eq-eqb _ _ e)
+    pub report-done : b ≡ true → {t : ℕ} → t ≡ toldOf s x v → step (withCondition s x v) (Done t) ≡ reportStep s x v
+    unfolding reportStep
+    report-done y r = simp (lt-ltb _ _ h, ← e, sym q ∙ y, r)
 
 -- ---- a job j, and k, the number of nodes that it is found to hold below N
 

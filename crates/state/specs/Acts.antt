@@ -1,7 +1,6 @@
 -- What each call does to a state, and is told. Document 01, "Six calls and their frames" and "When a call says no": the checks in the table's order.
-use Prim.Native.Nat.{ℕ, zero, suc, _+_, _^_}
-use mathlib.Core.Bool.{Bool, true, false, not, cond}
-use mathlib.Core.List.{List}
+use Prim.Native.Nat.{ℕ, _^_}
+use mathlib.Core.Bool.{Bool, true, not, cond}
 use lib.Dec.{eqb, ltb}
 use lib.ListN.{getD}
 use Rattle.hypercube.specs.Bits.{width}
@@ -9,7 +8,6 @@ use Rattle.hypercube.specs.Lists.{countBelow}
 use Rattle.hypercube.specs.Labels.{node, differing, size, relabelled}
 use Rattle.hypercube.specs.Subcubes.{vertices}
 use Rattle.hypercube.specs.Families.{choice}
-use Rattle.hypercube.specs.declared.Node.{Node}
 use Rattle.hypercube.specs.declared.Walk.{Walk}
 use Rattle.hypercube.specs.declared.Walk.the-variants.{Found, NoneFree}
 use Rattle.labels.specs.Flags.{flags}
@@ -47,17 +45,19 @@ holds s j = anyBelow (λ x. eqb (getD (s .holders) x 0) j) (nodeCount s)
 abbrev pub anyHeld : State → Bool
 anyHeld s = anyBelow (λ x. not (eqb (getD (s .holders) x 0) 0)) (nodeCount s)
 
--- the three reports
-unfoldable pub goodStep : State → ℕ → Step
-goodStep s x =
-    cond (ltb x (nodeCount s)) (cond (eqb (getD (s .conditions) x 0) 2) (refuse s 12) (step (withCondition s x 1) (Done 0))) (refuse s 8)
+-- a report of node x sets its condition to v: 'good' 1, 'fault' 2, 'repaired' 0. "'good' on a faulty node, 'repaired' on one not faulty" is refused
+abbrev pub allowed : ℕ → ℕ → Bool
+allowed v c = cond (eqb v 2) true (cond (eqb v 1) (not (eqb c 2)) (eqb c 2))
 
-unfoldable pub faultStep : State → ℕ → Step
-faultStep s x = cond (ltb x (nodeCount s)) (step (withCondition s x 2) (Done (getD (s .holders) x 0))) (refuse s 8)
+-- told is "for a fault the holder", "else 0"
+abbrev pub toldOf : State → ℕ → ℕ → ℕ
+toldOf s x v = cond (eqb v 2) (getD (s .holders) x 0) 0
 
-unfoldable pub repairedStep : State → ℕ → Step
-repairedStep s x =
-    cond (ltb x (nodeCount s)) (cond (eqb (getD (s .conditions) x 0) 2) (step (withCondition s x 0) (Done 0)) (refuse s 12)) (refuse s 8)
+unfoldable pub reportStep : State → ℕ → ℕ → Step
+reportStep s x v =
+    cond (ltb x (nodeCount s))
+    (cond (allowed v (getD (s .conditions) x 0)) (step (withCondition s x v) (Done (toldOf s x v))) (refuse s 12))
+    (refuse s 8)
 
 unfoldable pub relabelStep : State → Step
 relabelStep s =
@@ -92,9 +92,9 @@ releaseStep s j =
 
 -- a call on a state that is as "Node and record" says
 abbrev pub acted : State → Call → Step
-acted s (Good x) = goodStep s (x .0)
-acted s (Fault x) = faultStep s (x .0)
-acted s (Repaired x) = repairedStep s (x .0)
+acted s (Good x) = reportStep s (x .0) 1
+acted s (Fault x) = reportStep s (x .0) 2
+acted s (Repaired x) = reportStep s (x .0) 0
 acted s Relabel = relabelStep s
 acted s (Request j k f) = requestStep s j k f
 acted s (Release j) = releaseStep s j

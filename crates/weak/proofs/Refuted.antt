@@ -36,7 +36,7 @@ use Rattle.frames.specs.Parse.{parsed}
 use Rattle.cube.specs.Called.{delivered}
 use Rattle.cube.specs.Run.{Exchanges, begin, _next_, fed, returns, replies, heard, recordAfter, number, reply, historyAt}
 use Rattle.cube.specs.Demand3.{Demand3}
-use Rattle.allocator.proofs.Ways.{state-valid}
+use Rattle.steps.proofs.Ways.{state-valid}
 use Rattle.cube.proofs.Heard.{heard-back}
 use Rattle.cube.proofs.Theorem.{demand3}
 use Rattle.weak.specs.Programs.{Requests, by, answers14, unstarted, lowest, unrecorded, firstJob, plausible, anyTried}

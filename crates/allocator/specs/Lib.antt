@@ -1,2 +1,0 @@
--- What the six calls do to a record.
-pub mod Carried

@@ -1,0 +1,3 @@
+-- The laws of requests and releases on a record.
+pub mod Read
+pub mod Grants

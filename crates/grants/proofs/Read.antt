@@ -1,0 +1,28 @@
+-- The map and the holders, read from a record that is one. Assumes nothing.
+use Prim.Native.Nat.{ℕ, _+_, _≤_}
+use mathlib.Core.Path.{_≡_}
+use mathlib.Core.Bool.{true}
+use mathlib.Core.List.{List, map}
+use lib.ListN.{getD}
+use Rattle.hypercube.specs.Lists.{from}
+use Rattle.labels.specs.Directions.{Directions}
+use Rattle.labels.specs.Flags.{EmptyFrom}
+use Rattle.labels.proofs.Directions.{directions}
+use Rattle.state.specs.Acts.{nodeCount}
+use Rattle.record.specs.Layout.{decode, validRecord}
+use Rattle.record.proofs.Round.{sized-decode}
+use Rattle.steps.proofs.Ways.{state-valid}
+
+module _ (r : List ℕ) (v : validRecord r ≡ true) where
+  -- the holders of its N nodes are all there are
+  pub none-beyond : {N : ℕ} → N ≡ nodeCount (decode r) → N ≤ 1024 → EmptyFrom (decode r .holders) N
+  none-beyond e few =
+      record { entries = sized-decode r .holders; within = few; empty = λ x g l. state-valid r v .no-holders x (rw (← e) g) l }
+
+  -- the map that was loaded
+  pub map-loaded : {ds : List ℕ} → ds ≡ map (λ i. getD r (5 + i) 0) (from 0 10) → ds ≡ decode r .map
+  unfolding decode
+  map-loaded e = e
+
+  pub map-directions : {ds : List ℕ} → ds ≡ decode r .map → Directions ds
+  map-directions e = rw e (directions (decode r .n) (decode r .map) (state-valid r v .small) (state-valid r v .permutes))

@@ -1,0 +1,99 @@
+-- `grants::grant_on` meets its contract. Assumes nothing.
+use borrow.Author.Needs.{needs}
+use mathlib.Core.Path.{_≡_, refl, sym, _∙_}
+use native.Mathlib.Omega.{arith}
+use Rattle.state.specs.declared.Reply.the-variants.{Refused}
+use Rattle.state.proofs.Steps.{grant-14, grant-found}
+use Rattle.record.specs.Layout.{decode}
+use Rattle.steps.proofs.Ways.{state-valid, whole, told-only, accepts}
+use Rattle.grants.proofs.Read.{map-loaded, map-directions}
+use Rattle.grants.proofs.Grants.{lowest-of}
+use Rattle.grants.proofs.grant_on.Statement.{statement}
+use Rattle.grants.proofs.grant_on.Tie as tie
+
+-- the map that was loaded is the state's
+loaded : (c : tie.After-load-map) → c .load-map .result ≡ decode (c .before .before .before .args .rec .now) .map
+loaded c = map-loaded _ (c .before .before .before .pre .0) (c .load-map .ensures)
+
+load-map-requires : tie.Need-load-map-requires
+load-map-requires c κs = whole _ (c .before .before .pre .0) .0
+
+walk-of-requires : tie.Need-walk-of-requires
+walk-of-requires c κs =
+    let start = c .before .before .before .before .before in
+    (start .pre .0, (loaded (c .before .before), start .pre .1))
+
+tried-in-requires : tie.Need-tried-in-requires
+tried-in-requires c κs = search needs
+
+enum-known-walk : tie.Need-enum-known-walk
+enum-known-walk c = search needs
+
+enum-told : tie.Need-enum-told
+enum-told c = search needs
+
+same-length : tie.Need-same-length
+same-length c = search needs
+
+returns : tie.Need-returns
+returns c =
+    let at = c .before .before in
+    told-only _ _ (Refused 14 _) (λ z. absurd (omega arith))
+    (grant-14 _ _ _ _ (at .before .walk-of .ensures) _ (at .tried-in .ensures) _ (c .enum-told .given .1))
+
+node-of-requires : tie.Need-node-of-requires
+node-of-requires c κs =
+    let load = c .before .before .before .before .before .before .before .before in
+    map-directions _ (load .before .before .before .pre .0) (loaded load)
+
+node-of-requires-2 : tie.Need-node-of-requires-2
+node-of-requires-2 c κs =
+    let load = c .before .before .before .before .before .before .before .before .before .before in
+    map-directions _ (load .before .before .before .pre .0) (loaded load)
+
+give-requires : tie.Need-give-requires
+give-requires c κs =
+    let second = c .before in
+    let first = second .before .before in
+    let told = first .before .before .before in
+    let walk = told .before .before .before in
+    let load = walk .before .before .before in
+    let start = load .before .before .before in (
+      whole _ (start .pre .0),
+      lowest-of _ (state-valid _ (start .pre .0)) (start .args .k) (start .args .strategy) (start .pre .1) _ _
+          (sym (walk .walk-of .ensures) ∙ told .walk .given .1)
+          (loaded load) (first .node-of .ensures) (second .node-of2 .ensures),
+    )
+
+same-length-2 : tie.Need-same-length-2
+same-length-2 c = search needs
+
+returns-2 : tie.Need-returns-2
+returns-2 c =
+    let gave = c .before .before in
+    let second = gave .before .before in
+    let first = second .before .before in
+    let told = first .before .before .before in
+    let tried = told .before .before in
+    let load = tried .before .before .before .before in
+    accepts _ _ _ refl
+    (grant-found _ _ _ _ (tried .before .walk-of .ensures) _ (tried .tried-in .ensures) _ _ (told .walk .given .1)
+    (loaded load) _ (first .node-of .ensures) _ (second .node-of2 .ensures))
+    (gave .give .ensures)
+
+pub grant-on-spec : {M : Type 1} → statement M
+grant-on-spec =
+    tie.close
+    (tie.spec
+    load-map-requires
+    walk-of-requires
+    tried-in-requires
+    enum-known-walk
+    enum-told
+    same-length
+    returns
+    node-of-requires
+    node-of-requires-2
+    give-requires
+    same-length-2
+    returns-2)

@@ -1,0 +1,2 @@
+-- The law of the reports.
+pub mod Inside

@@ -1,0 +1,2 @@
+-- What a step does to a record.
+pub mod Carried
