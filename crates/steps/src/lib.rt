@@ -9,5 +9,6 @@ pub fn nodes_of(rec: &[u8]) -> usize
     requires { ⌜ validRecord (now rec) ≡ true ⌝ }
     ensures { λ r. ⌜ (r ≡ 2 ^ decode (now (rec .entry)) .n) × (r ≤ 1024) ⌝ }
 {
-    state::node_count(record::dimension(rec))
+    let n = record::dimension(rec);
+    state::node_count(n)
 }
