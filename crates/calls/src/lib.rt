@@ -22,7 +22,7 @@ fn relabel_on(rec: &mut [u8]) -> Reply
     Reply::Done(new.size)
 }
 
-// A call on a record that is one: no more is stored than the call changes.
+// A call on a record that is one: no more is stored than the call changes. A report sets its node's condition: good is 1, faulty 2, unconfirmed 0.
 pub fn call_record(rec: &mut [u8], c: Call) -> Reply
     requires { ⌜ validRecord (now rec) ≡ true ⌝ }
     ensures { λ r. ⌜ Carried (now (rec .entry)) c r (now (rec .exit)) ⌝ }

@@ -3,22 +3,23 @@ use mathlib.Core.Path.{_≡_, refl, sym, ap, _∙_, subst, fun-ext}
 use mathlib.Core.Logic.{_↔_, ⊎-elim}
 use mathlib.Core.Bool.{Bool, true, false, cond}
 use mathlib.Core.List.{List, map}
-use Prim.Native.Nat.{ℕ, _-_, _^_, _<_, _≤_}
+use Prim.Native.Nat.{ℕ, _^_, _<_, _≤_}
 use native.Mathlib.Omega.{arith}
 use borrow.Author.Tests.{eqb-true, eqb-false}
 use lib.Dec.{eqb}
-use lib.ListN.{length, getD, set, replicate, List·getD-eq-default, List·getD-append, List·getD-map}
+use lib.ListN.{length, getD, set, List·getD-eq-default, List·getD-map}
 use lib.Seq.{getD-set-same, getD-set-other}
 use Rattle.hypercube.specs.Lists.{In, among, from}
 use Rattle.hypercube.specs.Labels.{node}
 use Rattle.hypercube.specs.Families.{choice}
 use Rattle.hypercube.proofs.Bits.{lt-or}
 use Rattle.hypercube.proofs.Lists.{length-of, getD-each}
-use Rattle.hypercube.proofs.Tests.{cases, refutes, same-test}
+use Rattle.hypercube.proofs.Tests.{cases, either-way, refutes, same-test}
 use Rattle.hypercube.proofs.Families.{choice-same}
 use Rattle.history.specs.Account.{History, put, putAll, wipe, freeLabel}
 use Rattle.history.proofs.Counting.{means-among}
-use Rattle.labels.specs.Flags.{flag, flags}
+use Rattle.labels.specs.Flags.{flags}
+use Rattle.labels.proofs.Flags.{flags-free, flag-test}
 use Rattle.walks.specs.Flagged.{flagged}
 use Rattle.state.specs.declared.State.{State}
 use Rattle.state.specs.States.{given, cleared}
@@ -41,11 +42,7 @@ entry-set l x v b = fun-ext (λ y.
 
 pub entry-cleared : (l : List ℕ) (j : ℕ) → entry (cleared l j) ≡ wipe (entry l) j
 entry-cleared l j = fun-ext (λ y.
-    ap (getD (cleared l j) y) (sym (zero-of (eqb 0 j))) ∙ List·getD-map (λ (h : ℕ). cond (eqb h j) 0 h) l y 0)
-  where
-    zero-of : (b : Bool) → cond {A = ℕ} b 0 0 ≡ 0
-    zero-of true = refl
-    zero-of false = refl
+    ap (getD (cleared l j) y) (sym (either-way (eqb 0 j) 0)) ∙ List·getD-map (λ (h : ℕ). cond (eqb h j) 0 h) l y 0)
 
 -- the nodes are xs to the one and ys to the other
 pub entry-given : (l xs ys : List ℕ) (j : ℕ) → length l ≡ 1024 → ((y : ℕ) → In y xs ↔ In y ys) → ((y : ℕ) → In y xs → y < 1024)
@@ -68,19 +65,10 @@ entry-given l xs ys j e same b = fun-ext (λ y. ⊎-elim (inside y) (beyond y) (
 
 -- ---- the walk
 
--- a flag is 1 where its label is free
-free-is : (b : Bool) → eqb (cond b 1 0) 1 ≡ b
-free-is true = refl
-free-is false = refl
-
 flagged-free : (s : State) (l : ℕ) → l < 2 ^ s .n → flagged (flags (s .n) (s .map) (s .conditions) (s .holders)) l ≡ freeLabel (view s) l
-unfolding flag
 flagged-free s l b =
-    let f : ℕ → ℕ = λ l. flag (s .conditions) (s .holders) (node (s .map) l) in
-    let N = 2 ^ s .n in
-    ap (λ (z : ℕ). eqb z 1)
-    (List·getD-append (map f (from 0 N)) (replicate (1024 - N) 0) 0 l (omega (arith, length-of f 0 N)) ∙ getD-each f 0 N l b)
-    ∙ free-is (freeLabel (view s) l)
+    ap (λ (z : ℕ). eqb z 1) (flags-free (s .n) (s .map) (s .conditions) (s .holders) l b)
+    ∙ flag-test (s .conditions) (s .holders) (node (s .map) l)
 
 -- a request's walk goes by the history's free labels
 pub walk-is : (s : State) (k f : ℕ) → s .n ≤ 10 → k ≤ s .n → walkOf s k f ≡ choice f (s .n) k (freeLabel (view s))

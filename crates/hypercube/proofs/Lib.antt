@@ -3,6 +3,7 @@ pub mod Tests
 pub mod Decisions
 pub mod Bits
 pub mod Lists
+pub mod Filled
 pub mod Pigeonhole
 pub mod Vertices
 pub mod Labels

@@ -6,16 +6,17 @@ use mathlib.Core.List.{List, [], _∷_}
 use native.Mathlib.Decide.{ℕ-discrete}
 use native.Mathlib.Nat.{pow-succ'}
 use native.Mathlib.Omega.{arith}
-use lib.ListN.{getD, set}
-use lib.Pow.{pow-pos, pow-mono}
+use lib.ListN.{getD, set, replicate}
+use lib.Pow.{pow-mono}
 use Rattle.hypercube.specs.Bits.{bit}
 use Rattle.hypercube.specs.Labels.{node}
 use Rattle.hypercube.specs.declared.Node.{Node}
 use Rattle.hypercube.proofs.Bits.{power-one, power-other, bit-zero, bit-high, set-same, set-other}
+use Rattle.hypercube.proofs.Filled.{Swept, swept-none, swept-put}
 use Rattle.labels.specs.Directions.{Directions}
-use Rattle.labels.specs.Flags.{numbered, nodeAt, nodes}
+use Rattle.labels.specs.Flags.{numbered, nodeAt}
 use Rattle.labels.proofs.Directions.{node-small}
-use Rattle.labels.proofs.Flags.{cube-le, upTo, upTo-at, upTo-all, upTo-more, upTo-one}
+use Rattle.labels.proofs.Flags.{cube-le}
 
 -- ---- one bit more
 
@@ -35,19 +36,18 @@ unfolding node
 node-zero [] = refl
 node-zero (d ∷ ds) = omega (arith, bit-zero (d - 1), node-zero ds)
 
--- ---- the nodes by label, of which the first i are written
+-- ---- the nodes by label, of which the first i are filled
 
-abbrev pub nodesTo : ℕ → List ℕ → ℕ → List Node
-nodesTo n ds i = upTo (2 ^ n) (nodeAt ds) (numbered 0) i
+abbrev pub NodesTo : List ℕ → ℕ → List Node → Type 0
+NodesTo ds = Swept (nodeAt ds) (numbered 0) (replicate 1024 (numbered 0))
 
 -- the node of label 0 is 0
-pub nodes-one : (n : ℕ) (ds : List ℕ) → n ≤ 10 → nodesTo n ds 0 ≡ nodesTo n ds 1
-nodes-one n ds h = upTo-one (2 ^ n) (nodeAt ds) (numbered 0) (cube-le n h) (pow-pos n) (ap numbered (sym (node-zero ds)))
+pub nodes-one : (ds : List ℕ) → NodesTo ds 1 (replicate 1024 (numbered 0))
+nodes-one ds = swept-none (λ k h.
+    let e : k ≡ 0 = omega arith in
+    rw e (ap numbered (sym (node-zero ds))))
 
-pub nodes-all : (n : ℕ) (ds : List ℕ) → nodesTo n ds (2 ^ n) ≡ nodes n ds
-nodes-all n ds = upTo-all (2 ^ n) (nodeAt ds) (numbered 0) (2 ^ n) refl
-
--- what is known in one turn: the labels below size = 2^j, and l more, are written; the step is the node of that bit alone
+-- what is known in one turn: the labels below size = 2^j, and l more, have their nodes; the step is the node of that bit alone
 pub record Turn (n : ℕ) (ds : List ℕ) (j size step l : ℕ) (xs : List Node) : Type 0 where
   pub dimension : n ≤ 10
   pub directions : Directions ds
@@ -55,7 +55,7 @@ pub record Turn (n : ℕ) (ds : List ℕ) (j size step l : ℕ) (xs : List Node)
   pub power : size ≡ 2 ^ j
   pub alone : step ≡ node ds size
   pub inside : l < size
-  pub so-far : xs ≡ nodesTo n ds (size + l)
+  pub so-far : NodesTo ds (size + l) xs
 
 module _ {n : ℕ} {ds : List ℕ} {j size step l : ℕ} {xs : List Node} (t : Turn n ds j size step l xs) where
   abbrev lower : ℕ
@@ -68,9 +68,7 @@ module _ {n : ℕ} {ds : List ℕ} {j size step l : ℕ} {xs : List Node} (t : T
   place-below = omega (arith, label-below, cube-le n (t .dimension))
 
   lower-node : lower ≡ node ds l
-  lower-node =
-      let at = upTo-at (2 ^ n) (nodeAt ds) (numbered 0) (size + l) l (omega (arith, t .inside)) (omega (arith, label-below)) in
-      ap (λ (ys : List Node). getD ys l (numbered 0) .0) (t .so-far) ∙ ap (λ (y : Node). y .0) at
+  lower-node = ap (λ (y : Node). y .0) (t .so-far .filled .front l (omega (arith, t .inside)))
 
   next-node : lower + step ≡ node ds (size + l)
   next-node =
@@ -81,9 +79,7 @@ module _ {n : ℕ} {ds : List ℕ} {j size step l : ℕ} {xs : List Node} (t : T
   pub next-below : lower + step < 1024
   next-below = rw next-node (node-small 0 (size + l) (t .directions))
 
-  pub nodes-more : set xs (size + l) (numbered (lower + step)) ≡ nodesTo n ds (size + (l + 1))
+  pub nodes-more : NodesTo ds (size + (l + 1)) (set xs (size + l) (numbered (lower + step)))
   nodes-more =
       let e : size + l + 1 ≡ size + (l + 1) = omega arith in
-      ap (λ (ys : List Node). set ys (size + l) (numbered (lower + step))) (t .so-far)
-      ∙ upTo-more (2 ^ n) (nodeAt ds) (numbered 0) (cube-le n (t .dimension)) (size + l) (numbered (lower + step)) label-below (ap numbered next-node)
-      ∙ ap (nodesTo n ds) e
+      rw e at (swept-put (numbered (lower + step)) (t .so-far) place-below (ap numbered next-node))

@@ -1,6 +1,5 @@
 -- Laws by idea; the functions' proofs cite them.
 pub mod Directions
-pub mod Filling
 pub mod Flags
 pub mod Doubling
 pub mod Differing

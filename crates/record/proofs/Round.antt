@@ -8,10 +8,10 @@ use mathlib.Core.List.{List, [], _∷_, _++_, map}
 use native.Mathlib.Omega.{arith}
 use borrow.Author.Tests.{eq-eqb}
 use lib.ListN.{length, getD, length-append, List·getD-append}
-use lib.Seq.{ext-getD, getD-append-add}
+use lib.Seq.{ext-getD}
 use Rattle.hypercube.specs.Lists.{from}
 use Rattle.hypercube.proofs.Bits.{lt-or}
-use Rattle.hypercube.proofs.Lists.{length-of, getD-each, is-each}
+use Rattle.hypercube.proofs.Lists.{getD-past, length-of, getD-each, is-each}
 use Rattle.hypercube.proofs.Tests.{means-eq, means-and}
 use Rattle.history.specs.Calls.{word}
 use Rattle.state.specs.declared.State.{State}
@@ -46,10 +46,6 @@ pub record Sized (s : State) : Type 0 where
   pub holders : length (s .holders) ≡ 1024
   pub conditions : length (s .conditions) ≡ 1024
 
--- the entry that stands k places into the second of two lists
-past : (xs ys : List ℕ) (m k j : ℕ) → length xs ≡ m → m + k ≡ j → getD (xs ++ ys) j 0 ≡ getD ys k 0
-past xs ys m k j e q = let p : j ≡ length xs + k = omega arith in rw p (getD-append-add xs ys k 0)
-
 -- the parts of a record: its first bytes, and the rest from the map, from the zero byte and from the holders on
 abbrev first : State → List ℕ
 first s = 16 ∷ 12 ∷ 1 ∷ 0 ∷ s .n ∷ []
@@ -74,18 +70,18 @@ module _ (s : State) (z : Sized s) where
 
   pub encode-map : (i : ℕ) → i < 10 → getD (encode s) (5 + i) 0 ≡ getD (s .map) i 0
   unfolding encode
-  encode-map i h = past (first s) (mapOn s) 5 i (5 + i) refl refl ∙ List·getD-append (s .map) (zeroOn s) 0 i (omega (arith, z .directions))
+  encode-map i h = getD-past (first s) (mapOn s) 0 i (5 + i) refl ∙ List·getD-append (s .map) (zeroOn s) 0 i (omega (arith, z .directions))
 
   pub encode-zero : getD (encode s) 15 0 ≡ 0
   unfolding encode
-  encode-zero = past (first s) (mapOn s) 5 10 15 refl refl ∙ past (s .map) (zeroOn s) 10 0 10 (z .directions) refl
+  encode-zero = getD-past (first s) (mapOn s) 0 10 15 refl ∙ getD-past (s .map) (zeroOn s) 0 0 10 (omega (arith, z .directions))
 
   -- past the head
   rest : (k : ℕ) → getD (encode s) (16 + k) 0 ≡ getD (holdersOn s) k 0
   unfolding encode
   rest k =
-      past (first s) (mapOn s) 5 (11 + k) (16 + k) refl (omega arith) ∙ past (s .map) (zeroOn s) 10 (1 + k) (11 + k) (z .directions) (omega arith)
-      ∙ past (0 ∷ []) (holdersOn s) 1 k (1 + k) refl refl
+      getD-past (first s) (mapOn s) 0 (11 + k) (16 + k) (omega arith)
+      ∙ getD-past (s .map) (zeroOn s) 0 (1 + k) (11 + k) (omega (arith, z .directions)) ∙ getD-past (0 ∷ []) (holdersOn s) 0 k (1 + k) refl
 
   pub encode-low : (x : ℕ) → x < 1024 → getD (encode s) (16 + 2 * x) 0 ≡ getD (s .holders) x 0 % 256
   encode-low x h =
@@ -105,7 +101,7 @@ module _ (s : State) (z : Sized s) where
   pub encode-condition : (x : ℕ) → getD (encode s) (2064 + x) 0 ≡ getD (s .conditions) x 0
   encode-condition x =
       (let e : 2064 + x ≡ 16 + (2048 + x) = omega arith in rw e (rest (2048 + x)))
-      ∙ past (words (s .holders)) (s .conditions) 2048 x (2048 + x) (omega (arith, z .holders, length-words (s .holders))) refl
+      ∙ getD-past (words (s .holders)) (s .conditions) 0 x (2048 + x) (omega (arith, z .holders, length-words (s .holders)))
 
   pub decode-encode : decode (encode s) ≡ s
   unfolding decode

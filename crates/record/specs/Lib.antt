@@ -1,4 +1,4 @@
 -- The record's bytes, and what its functions promise.
 pub mod Layout
-pub mod Filled
+pub mod Stored
 pub mod Highest

@@ -1,4 +1,5 @@
 // A record's 3088 bytes, and the state that they say (document 01, "Node and record").
+use bytes::copy;
 use state::State;
 ghost use mathlib.Core.Path.{_≡_};
 ghost use mathlib.Core.List.{map};
@@ -8,7 +9,7 @@ ghost use Rattle.hypercube.specs.Lists.{from};
 ghost use Rattle.history.specs.Calls.{word};
 ghost use Rattle.state.specs.Valid.{nodesRight, valid};
 ghost use Rattle.record.specs.Layout.{encode, decode, headRight, validRecord};
-ghost use Rattle.record.specs.Filled.{Stored};
+ghost use Rattle.record.specs.Stored.{Stored};
 ghost use Rattle.record.specs.Highest.{highestOf};
 
 fn wide(b: u8) -> u16
@@ -36,16 +37,21 @@ pub fn dimension(bytes: &[u8]) -> u8
     n
 }
 
+// The bytes from place `at` on, as many as `part` is long.
+fn load_bytes(bytes: &[u8], at: usize, part: &mut [u8])
+    requires { ⌜ at + length (now part) ≤ length (now bytes) ⌝ }
+    ensures { λ _. ⌜ now (part .exit) ≡ map (λ i. getD (now (bytes .entry)) (at + i) 0) (from 0 (length (now (part .entry)))) ⌝ }
+{
+    let end = at + part.len();
+    copy(&bytes[at..end], part);
+}
+
 pub fn load_map(bytes: &[u8]) -> [u8; 10]
     requires { ⌜ length (now bytes) ≡ 3088 ⌝ }
     ensures { λ r. ⌜ r ≡ map (λ i. getD (now (bytes .entry)) (5 + i) 0) (from 0 10) ⌝ }
 {
     let mut map = [0; 10];
-    let mut i = 0;
-    while i < 10 {
-        map[i] = bytes[5 + i];
-        i += 1;
-    }
+    load_bytes(bytes, 5, &mut map);
     map
 }
 
@@ -67,11 +73,7 @@ fn load_conditions(bytes: &[u8]) -> [u8; 1024]
     ensures { λ r. ⌜ r ≡ map (λ x. getD (now (bytes .entry)) (2064 + x) 0) (from 0 1024) ⌝ }
 {
     let mut conditions = [0; 1024];
-    let mut x = 0;
-    while x < 1024 {
-        conditions[x] = bytes[2064 + x];
-        x += 1;
-    }
+    load_bytes(bytes, 2064, &mut conditions);
     conditions
 }
 
@@ -177,11 +179,7 @@ fn put_head(s: State, bytes: &mut [u8])
     bytes[2] = 1;
     bytes[3] = 0;
     bytes[4] = s.n;
-    let mut i = 0;
-    while i < 10 {
-        bytes[5 + i] = s.map[i];
-        i += 1;
-    }
+    copy(&s.map, &mut bytes[5..15]);
     bytes[15] = 0;
 }
 
@@ -202,11 +200,7 @@ fn put_conditions(s: State, bytes: &mut [u8])
     requires { ⌜ Stored s 2064 (now bytes) ⌝ }
     ensures { λ _. ⌜ Stored s 3088 (now (bytes .exit)) ⌝ }
 {
-    let mut x = 0;
-    while x < 1024 {
-        bytes[2064 + x] = s.conditions[x];
-        x += 1;
-    }
+    copy(&s.conditions, &mut bytes[2064..3088]);
 }
 
 // The record that says a state.

@@ -1,18 +1,19 @@
 -- `labels::flags_by_label` meets its contract. The loop's invariant: the flags of the labels passed are written. Assumes nothing.
 use Prim.Native.Nat.{_-_, _^_, _<_, _≤_}
-use mathlib.Core.Path.{_≡_, refl, ap, _∙_}
+use mathlib.Core.Path.{_≡_, ap}
 use native.Mathlib.Omega.{arith}
 use borrow.Author.Needs.{needs}
 use lib.ListN.{getD}
 use Rattle.hypercube.specs.Labels.{node}
+use Rattle.hypercube.proofs.Filled.{Swept, swept-none, swept-put}
 use Rattle.labels.specs.Flags.{numbered, movedAt}
 use Rattle.labels.proofs.Directions.{node-small}
-use Rattle.labels.proofs.Flags.{cube-le, upTo, upTo-all, upTo-more, own-stay, node-at}
+use Rattle.labels.proofs.Flags.{cube-le, swept-table, own-stay, node-at}
 use Rattle.labels.proofs.flags_by_label.Statement.{statement}
 use Rattle.labels.proofs.flags_by_label.Tie as tie
 
 abbrev Inv-loop : tie.InvT-loop
-Inv-loop n map flags nodes size by-label₀ l₀ by-label l = (by-label ≡ upTo (2 ^ n) (movedAt map flags) 0 l) × (l ≤ size) × (size ≤ 1024)
+Inv-loop n map flags nodes size by-label₀ l₀ by-label l = Swept (movedAt map flags) 0 by-label₀ l by-label × (l ≤ size) × (size ≤ 1024)
 
 abbrev μ-loop : tie.MeasureT-loop
 μ-loop n map flags nodes size by-label₀ l₀ by-label l = size - l
@@ -52,7 +53,7 @@ cast-size c = omega arith
 loop-holds : tie.Need-loop-holds Inv-loop μ-loop
 loop-holds c =
     let start = c .before .before .before .before in
-    (refl, omega arith, rw (c .pow2 .ensures) (cube-le (start .args .n) (start .pre .0 .0)))
+    (swept-none (λ k h. absurd (omega arith)), omega arith, rw (c .pow2 .ensures) (cube-le (start .args .n) (start .pre .0 .0)))
 
 mul-x : tie.Need-mul-x Inv-loop μ-loop
 mul-x c = omega arith
@@ -77,22 +78,14 @@ loop-less c = omega arith
 
 loop-again : tie.Need-loop-again Inv-loop μ-loop
 loop-again c =
-    let start = c .before .before .before .before .before .before .before in
-    let a = start .args in
-    let l = c .before .before .loop in (
-      rw (l .inv .0)
-          (upTo-more (2 ^ a .n) (movedAt (a .map .now) (a .flags .now)) 0 (cube-le (a .n) (start .pre .0 .0)) (l .l) _ (below (c .before))
-          (ap (λ x. getD (a .flags .now) x 0) (its-node (c .before)))),
-      omega arith,
-      omega arith,
-    )
+    let flags = c .before .before .before .before .before .before .before .args .flags .now in
+    let l = c .before .before .loop in
+    (swept-put _ (l .inv .0) (omega arith) (ap (λ x. getD flags x 0) (its-node (c .before))), omega arith, omega arith)
 
 returns-2 : tie.Need-returns-2 Inv-loop μ-loop
 returns-2 c =
-    let a = c .before .before .before .before .before .before .args in
-    c .before .loop .inv .0
-    ∙ upTo-all (2 ^ a .n) (movedAt (a .map .now) (a .flags .now)) 0 (c .before .loop .l)
-    (omega (arith, c .before .before .pow2 .ensures))
+    let start = c .before .before .before .before .before .before in
+    swept-table (2 ^ start .args .n) _ 0 (cube-le _ (start .pre .0 .0)) (c .before .loop .inv .0) (omega (arith, c .before .before .pow2 .ensures))
 
 pub flags-by-label-spec : {M : Type 1} → statement M
 flags-by-label-spec =

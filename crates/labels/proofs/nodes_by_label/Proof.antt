@@ -1,22 +1,23 @@
--- `labels::nodes_by_label` meets its contract. The loops' invariants: the nodes of the labels below 2^j are written, and in a turn those of as many
--- more as it has passed. Assumes nothing.
+-- `labels::nodes_by_label` meets its contract. The loops' invariants: the labels below 2^j have their nodes, and in a turn as many more as it has
+-- passed. Assumes nothing.
 use Prim.Native.Nat.{_+_, _-_, _*_, _^_, _≤_}
-use mathlib.Core.Path.{_≡_, ap, _∙_}
+use mathlib.Core.Path.{_≡_}
 use native.Mathlib.Nat.{pow-succ'}
 use native.Mathlib.Numerals.{add-one}
 use native.Mathlib.Omega.{arith}
-use Rattle.labels.proofs.Doubling.{nodesTo, nodes-one, nodes-all, Turn, place-below, next-below, nodes-more}
+use Rattle.labels.proofs.Flags.{cube-le, swept-table}
+use Rattle.labels.proofs.Doubling.{NodesTo, nodes-one, Turn, place-below, next-below, nodes-more}
 use Rattle.labels.proofs.nodes_by_label.Statement.{statement}
 use Rattle.labels.proofs.nodes_by_label.Tie as tie
 
 abbrev Inv-loop2 : tie.InvT-loop2
-Inv-loop2 n map nodes₀ j bit step size l₀ nodes l = (nodes ≡ nodesTo n map (size + l)) × (l ≤ size)
+Inv-loop2 n map nodes₀ j bit step size l₀ nodes l = NodesTo map (size + l) nodes × (l ≤ size)
 
 abbrev μ-loop2 : tie.MeasureT-loop2
 μ-loop2 n map nodes₀ j bit step size l₀ nodes l = size - l
 
 abbrev Inv-loop : tie.InvT-loop
-Inv-loop n map nodes₀ j₀ nodes j = (nodes ≡ nodesTo n map (2 ^ j)) × (j ≤ n)
+Inv-loop n map nodes₀ j₀ nodes j = NodesTo map (2 ^ j) nodes × (j ≤ n)
 
 abbrev μ-loop : tie.MeasureT-loop
 μ-loop n map nodes₀ j₀ nodes j = n - j
@@ -39,7 +40,7 @@ turn c =
     }
 
 loop-holds : tie.Need-loop-holds Inv-loop2 μ-loop2 Inv-loop μ-loop
-loop-holds c = (nodes-one (c .args .n) (c .args .map .now) (c .pre .0), omega arith)
+loop-holds c = (nodes-one (c .args .map .now), omega arith)
 
 pow2-requires : tie.Need-pow2-requires Inv-loop2 μ-loop2 Inv-loop μ-loop
 pow2-requires c κs = omega arith
@@ -52,9 +53,8 @@ cast-size c = omega arith
 
 loop2-holds : tie.Need-loop2-holds Inv-loop2 μ-loop2 Inv-loop μ-loop
 loop2-holds c =
-    let start = c .before .before .before .before in
     let e : 2 ^ c .before .before .before .loop .j ≡ c .before .pow2 .result + 0 = omega (arith, c .before .pow2 .ensures) in
-    (c .before .before .before .loop .inv .0 ∙ ap (nodesTo (start .args .n) (start .args .map .now)) e, omega arith)
+    (rw e at (c .before .before .before .loop .inv .0), omega arith)
 
 mul-low : tie.Need-mul-low Inv-loop2 μ-loop2 Inv-loop μ-loop
 mul-low c = omega arith
@@ -91,17 +91,16 @@ loop-less c = omega arith
 
 loop-again : tie.Need-loop-again Inv-loop2 μ-loop2 Inv-loop μ-loop
 loop-again c =
-    let start = c .before .before .before .before .before .before in
     let j = c .before .before .before .before .before .loop .j in
     let d : 2 ^ (j + 1) ≡ 2 * 2 ^ j = rw (add-one j) (pow-succ' 2 j) in
     let e : c .before .before .before .pow2 .result + c .before .loop2 .l ≡ 2 ^ (j + 1) = omega (arith, c .before .before .before .pow2 .ensures) in
-    (c .before .loop2 .inv .0 ∙ ap (nodesTo (start .args .n) (start .args .map .now)) e, omega arith)
+    (rw e at (c .before .loop2 .inv .0), omega arith)
 
 returns : tie.Need-returns Inv-loop2 μ-loop2 Inv-loop μ-loop
 returns c =
     let start = c .before .before in
     let e : c .before .loop .j ≡ start .args .n = omega arith in
-    rw e at (c .before .loop .inv .0) ∙ nodes-all (start .args .n) (start .args .map .now)
+    swept-table (2 ^ start .args .n) _ _ (cube-le _ (start .pre .0)) (c .before .loop .inv .0) (rw e)
 
 pub nodes-by-label-spec : {M : Type 1} → statement M
 nodes-by-label-spec =

@@ -1,11 +1,12 @@
--- `nodes::flags_by_node` meets its contract. The loop's invariant: the flags of the nodes passed are written. Assumes nothing.
+-- `nodes::flags_by_node` meets its contract. The loop's invariant: the nodes passed have their flags. Assumes nothing.
 use Prim.Native.Nat.{ℕ, _-_, _≤_}
-use mathlib.Core.Path.{_≡_, refl, sym, ap₂, _∙_}
+use mathlib.Core.Path.{_≡_, sym, ap₂, _∙_}
 use mathlib.Core.List.{List}
 use native.Mathlib.Omega.{arith}
 use borrow.Author.Needs.{needs}
+use Rattle.hypercube.proofs.Filled.{Swept, swept-none, swept-put}
 use Rattle.labels.specs.Flags.{flag, flagOf}
-use Rattle.labels.proofs.Flags.{upTo, upTo-all, upTo-more}
+use Rattle.labels.proofs.Flags.{swept-table}
 use Rattle.record.specs.Layout.{decode}
 use Rattle.record.proofs.Round.{decode-holder, decode-condition}
 use Rattle.nodes.proofs.flags_by_node.Statement.{statement}
@@ -16,13 +17,13 @@ abbrev flagIn : List ℕ → ℕ → ℕ
 flagIn r = flag (decode r .conditions) (decode r .holders)
 
 abbrev Inv-loop : tie.InvT-loop
-Inv-loop bytes size flags₀ x₀ flags x = (flags ≡ upTo size (flagIn bytes) 0 x) × (x ≤ size) × (size ≤ 1024)
+Inv-loop bytes size flags₀ x₀ flags x = Swept (flagIn bytes) 0 flags₀ x flags × (x ≤ size) × (size ≤ 1024)
 
 abbrev μ-loop : tie.MeasureT-loop
 μ-loop bytes size flags₀ x₀ flags x = size - x
 
 loop-holds : tie.Need-loop-holds Inv-loop μ-loop
-loop-holds c = (refl, omega arith, omega arith)
+loop-holds c = (swept-none (λ k h. absurd (omega arith)), omega arith, omega arith)
 
 add-flag-of : tie.Need-add-flag-of Inv-loop μ-loop
 add-flag-of c = omega arith
@@ -61,12 +62,12 @@ loop-again c =
     let v : c .flag-of .result ≡ flagIn r (l .x) =
     c .flag-of .ensures
     ∙ ap₂ flagOf (sym (decode-condition r (l .x) (omega arith))) (c .before .word .ensures ∙ sym (decode-holder r (l .x) (omega arith))) in
-    (rw (l .inv .0) (upTo-more (a .size) (flagIn r) 0 (l .inv .2) (l .x) (c .flag-of .result) (omega arith) v), omega arith, omega arith)
+    (swept-put _ (l .inv .0) (omega arith) v, omega arith, omega arith)
 
 returns : tie.Need-returns Inv-loop μ-loop
 returns c =
-    let a = c .before .before .before .args in
-    c .before .loop .inv .0 ∙ upTo-all (a .size) (flagIn (a .bytes .now)) 0 (c .before .loop .x) (omega arith)
+    let l = c .before .loop in
+    swept-table (c .before .before .before .args .size) _ 0 (l .inv .2) (l .inv .0) (omega arith)
 
 pub flags-by-node-spec : {M : Type 1} → statement M
 flags-by-node-spec =

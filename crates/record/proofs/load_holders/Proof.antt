@@ -3,19 +3,20 @@ use Prim.Native.Nat.{_+_, _*_, _-_}
 use mathlib.Core.Path.{refl}
 use native.Mathlib.Omega.{arith}
 use Rattle.history.specs.Calls.{word}
-use Rattle.record.specs.Filled.{Filled}
-use Rattle.record.proofs.Fills.{filled-none, filled-next, filled-all}
+use Rattle.hypercube.specs.Filled.{Filled}
+use Rattle.hypercube.proofs.Lists.{is-each}
+use Rattle.hypercube.proofs.Filled.{filled-none, filled-next}
 use Rattle.record.proofs.load_holders.Statement.{statement}
 use Rattle.record.proofs.load_holders.Tie as tie
 
 abbrev Inv-loop : tie.InvT-loop
-Inv-loop bytes holders₀ x₀ holders x = Filled (λ k. word bytes (16 + 2 * k)) 1024 x holders
+Inv-loop bytes holders₀ x₀ holders x = Filled (λ k. word bytes (16 + 2 * k)) 0 1024 x holders
 
 abbrev μ-loop : tie.MeasureT-loop
 μ-loop bytes holders₀ x₀ holders x = 1024 - x
 
 loop-holds : tie.Need-loop-holds Inv-loop μ-loop
-loop-holds c = filled-none _ 1024 _ refl
+loop-holds c = filled-none refl
 
 mul-word : tie.Need-mul-word Inv-loop μ-loop
 mul-word c = omega arith
@@ -42,7 +43,7 @@ loop-again : tie.Need-loop-again Inv-loop μ-loop
 loop-again c = filled-next _ (c .before .before .loop .inv) (c .before .loop-test .taken) (c .word .ensures)
 
 returns : tie.Need-returns Inv-loop μ-loop
-returns c = filled-all (c .before .loop .inv) (c .loop-test .left)
+returns c = is-each _ 1024 _ (c .before .loop .inv .long) (λ k h. c .before .loop .inv .front k (omega (arith, c .loop-test .left)))
 
 pub load-holders-spec : {M : Type 1} → statement M
 load-holders-spec =

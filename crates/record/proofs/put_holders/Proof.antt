@@ -6,9 +6,9 @@ use borrow.Author.Needs.{needs}
 use mir.Syntax.{w16}
 use mir.Val.{Fits}
 use lib.ListN.{getD, length-set}
-use Rattle.record.specs.Filled.{Stored}
+use Rattle.record.specs.Stored.{Stored}
 use Rattle.record.proofs.Round.{Sized, encode-low, encode-high}
-use Rattle.record.proofs.Fills.{filled-next, filled-to}
+use Rattle.hypercube.proofs.Filled.{filled-next, filled-to}
 use Rattle.record.proofs.put_holders.Statement.{statement}
 use Rattle.record.proofs.put_holders.Tie as tie
 

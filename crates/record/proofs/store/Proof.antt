@@ -1,6 +1,6 @@
 -- `record::store` meets its contract. Assumes nothing.
 use borrow.Author.Needs.{needs}
-use Rattle.record.proofs.Fills.{stored-all}
+use Rattle.record.proofs.Stored.{stored-all}
 use Rattle.record.proofs.store.Statement.{statement}
 use Rattle.record.proofs.store.Tie as tie
 
