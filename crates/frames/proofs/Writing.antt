@@ -4,11 +4,10 @@ use mathlib.Core.Path.{_≡_, sym, ap, _∙_}
 use mathlib.Core.List.{List, [], _∷_, _++_}
 use native.Mathlib.Numerals.{add-one}
 use native.Mathlib.Omega.{arith}
-use lib.ListN.{length, getD, drop, length-append, length-drop, drop-of-length-le}
+use lib.ListN.{length, getD, drop, drop-of-length-le}
 use lib.Seq.{sets, sets-eq, drop-cons}
 use Rattle.history.specs.Calls.{word}
 use Rattle.state.specs.declared.Reply.{Reply}
-use Rattle.state.specs.declared.Reply.the-variants.{Granted, Refused, Done}
 use Rattle.record.specs.Layout.{words}
 use Rattle.record.proofs.Round.{length-words}
 use Rattle.frames.specs.Parts.{putWord}
@@ -23,15 +22,6 @@ word-words (x ∷ xs) rest (suc i) h =
     let t : 2 * suc i ≡ suc (suc (2 * i)) = omega arith in
     let a : suc (suc (2 * i)) + 1 ≡ suc (suc (2 * i + 1)) = omega arith in
     rw (t, a) (word-words xs rest i (omega arith))
-
-pub length-written : (bs p : List ℕ) → length bs ≤ length p → length (written bs p) ≡ length p
-length-written bs p h = simp (length-append, length-drop) (omega arith)
-
-pub length-frameOf : (r : Reply) → length (frameOf r) ≤ 12
-unfolding frameOf words
-length-frameOf (Granted j low stars t) = omega arith
-length-frameOf (Refused m t) = omega arith
-length-frameOf (Done v) = omega arith
 
 -- ---- the words of a list, stored in order from place 0. After the first i of them, to store the others makes the whole
 

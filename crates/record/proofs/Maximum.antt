@@ -2,13 +2,11 @@
 use Prim.Native.Nat.{ℕ, zero, suc, _+_, _-_, _<_, _≤_, max}
 use mathlib.Core.Logic.{_↔_}
 use mathlib.Core.Path.{_≡_}
-use mathlib.Core.List.{List, [], _∷_, map}
+use mathlib.Core.List.{List, [], _∷_}
 use native.Mathlib.Numerals.{add-one}
 use native.Mathlib.Omega.{arith}
 use lib.ListN.{length, getD, take, drop, length-take, length-drop, drop-of-length-le}
 use lib.Seq.{drop-cons, getD-take, getD-drop}
-use Rattle.hypercube.specs.Lists.{from}
-use Rattle.hypercube.proofs.Lists.{is-each}
 use Rattle.record.specs.Highest.{highestOf}
 
 -- ---- a loop at place i, with m found of the entries before: m, with the highest of what is left, is the highest of all
@@ -37,9 +35,6 @@ unfolding highestOf
 above [] v h = omega arith
 above (x ∷ xs) v h = omega (arith, h 0 (omega arith), above xs v (λ i q. h (suc i) (omega arith)))
 
-pub highest-within : (l : List ℕ) (v : ℕ) → (highestOf l ≤ v) ↔ ((i : ℕ) → i < length l → getD l i 0 ≤ v)
-highest-within l v = (within l v, above l v)
-
 -- the part of a list from place a up to place e
 abbrev pub part : List ℕ → ℕ → ℕ → List ℕ
 part r a e = take (e - a) (drop a r)
@@ -50,9 +45,6 @@ module _ (r : List ℕ) (a e : ℕ) (fits : e ≤ length r) where
 
   pub part-at : (i : ℕ) → i < e - a → getD (part r a e) i 0 ≡ getD r (a + i) 0
   part-at i h = rw (getD-take, getD-drop)
-
-  pub part-is : part r a e ≡ map (λ i. getD r (a + i) 0) (from 0 (e - a))
-  part-is = is-each (λ i. getD r (a + i) 0) (e - a) (part r a e) length-part part-at
 
   pub part-within : (v : ℕ) → (highestOf (part r a e) ≤ v) ↔ ((i : ℕ) → a ≤ i → i < e → getD r i 0 ≤ v)
   part-within v = (

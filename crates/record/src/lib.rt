@@ -1,5 +1,4 @@
 // A record's 3088 bytes, and the state that they say (document 01, "Node and record").
-use bytes::copy;
 use state::State;
 ghost use mathlib.Core.Path.{_≡_};
 ghost use mathlib.Core.List.{map};
@@ -42,8 +41,11 @@ fn load_bytes(bytes: &[u8], at: usize, part: &mut [u8])
     requires { ⌜ at + length (now part) ≤ length (now bytes) ⌝ }
     ensures { λ _. ⌜ now (part .exit) ≡ map (λ i. getD (now (bytes .entry)) (at + i) 0) (from 0 (length (now (part .entry)))) ⌝ }
 {
-    let end = at + part.len();
-    copy(&bytes[at..end], part);
+    let mut i = 0;
+    while i < part.len() {
+        part[i] = bytes[at + i];
+        i += 1;
+    }
 }
 
 pub fn load_map(bytes: &[u8]) -> [u8; 10]
@@ -179,7 +181,11 @@ fn put_head(s: State, bytes: &mut [u8])
     bytes[2] = 1;
     bytes[3] = 0;
     bytes[4] = s.n;
-    copy(&s.map, &mut bytes[5..15]);
+    let mut i = 0;
+    while i < 10 {
+        bytes[5 + i] = s.map[i];
+        i += 1;
+    }
     bytes[15] = 0;
 }
 
@@ -200,7 +206,11 @@ fn put_conditions(s: State, bytes: &mut [u8])
     requires { ⌜ Stored s 2064 (now bytes) ⌝ }
     ensures { λ _. ⌜ Stored s 3088 (now (bytes .exit)) ⌝ }
 {
-    copy(&s.conditions, &mut bytes[2064..3088]);
+    let mut x = 0;
+    while x < 1024 {
+        bytes[2064 + x] = s.conditions[x];
+        x += 1;
+    }
 }
 
 // The record that says a state.

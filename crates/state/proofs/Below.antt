@@ -1,7 +1,7 @@
 -- Where a loop that tests or counts the numbers below N, one after the other, stands, and what it has at the end. Assumes nothing.
-use Prim.Native.Nat.{ℕ, zero, suc, _+_, _<_, _≤_}
-use mathlib.Core.Path.{_≡_, refl, sym, ap, ap₂, _∙_, subst}
-use mathlib.Core.Bool.{Bool, true, false, not, cond, _&&_, _||_}
+use Prim.Native.Nat.{ℕ, zero, suc, _+_, _≤_}
+use mathlib.Core.Path.{_≡_, refl, sym, ap, _∙_, subst}
+use mathlib.Core.Bool.{Bool, true, false, not, cond, _&&_, _||_, or-true, or-false}
 use native.Mathlib.Numerals.{add-one}
 use native.Mathlib.Omega.{arith}
 use borrow.Author.Tests.{ne-eqb}
@@ -12,22 +12,6 @@ use Rattle.state.specs.Valid.{allBelow, anyBelow}
 -- what a loop has at i it has at N, once it is left
 ends : {A : Type 0} (f : ℕ → A) (N i : ℕ) (b : A) → b ≡ f i → i ≤ N → N ≤ i → b ≡ f N
 ends f N i b e h k = subst (λ (m : ℕ). b ≡ f m) (omega arith) e
-
-or-true : (b : Bool) → b || true ≡ true
-or-true true = refl
-or-true false = refl
-
-or-false : (b : Bool) → b || false ≡ b
-or-false true = refl
-or-false false = refl
-
-and-true : (b : Bool) → b && true ≡ b
-and-true true = refl
-and-true false = refl
-
-and-assoc : (a b c : Bool) → a && (b && c) ≡ (a && b) && c
-and-assoc true b c = refl
-and-assoc false b c = refl
 
 not-and : (a b : Bool) → not a || not b ≡ not (a && b)
 not-and true b = refl
@@ -65,17 +49,3 @@ module _ (test : ℕ → Bool) where
   unfolding anyBelow allBelow
   any-not zero = refl
   any-not (suc N) = ap (λ (b : Bool). b || not (test N)) (any-not N) ∙ not-and (allBelow test N) (test N)
-
-  -- those below N, and the m from N on
-  pub all-split : (N m : ℕ) → allBelow test (N + m) ≡ allBelow test N && allBelow (λ i. test (N + i)) m
-  unfolding allBelow
-  all-split N zero = let e : N + 0 ≡ N = omega arith in rw e (sym (and-true (allBelow test N)))
-  all-split N (suc m) =
-      let e : N + suc m ≡ suc (N + m) = omega arith in
-      rw (e, allBelow)
-      (ap (λ (b : Bool). b && test (N + m)) (all-split N m) ∙ sym (and-assoc (allBelow test N) (allBelow (λ i. test (N + i)) m) (test (N + m))))
-
-pub all-same : (f g : ℕ → Bool) (N : ℕ) → ((x : ℕ) → x < N → f x ≡ g x) → allBelow f N ≡ allBelow g N
-unfolding allBelow
-all-same f g zero h = refl
-all-same f g (suc N) h = ap₂ _&&_ (all-same f g N (λ x l. h x (omega arith))) (h N (omega arith))

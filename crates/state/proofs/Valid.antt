@@ -1,13 +1,13 @@
 -- What refusal 1's test says of a state, as facts; and that the test holds exactly where the facts do. Assumes nothing.
 use Prim.Native.Nat.{ℕ, zero, suc, _+_, _-_, _^_, _<_, _≤_}
 use mathlib.Core.Logic.{_↔_, _⊎_, inl, inr, ⊎-elim}
-use mathlib.Core.Path.{_≡_, refl, sym, ap, ap₂, _∙_, subst}
+use mathlib.Core.Path.{_≡_, refl, sym, subst}
 use mathlib.Core.Bool.{Bool, true, false, not, cond, _&&_, false≢true}
 use mathlib.Core.List.{List}
 use native.Mathlib.Omega.{arith}
 use native.Mathlib.Nat.{lt-of-lt-of-le}
 use borrow.Author.Tests.{lt-ltb, le-ltb, lt-leb, le-leb}
-use lib.Dec.{eqb, ltb, leb}
+use lib.Dec.{eqb, ltb}
 use lib.ListN.{length, getD}
 use lib.Pow.{pow-mono}
 use Rattle.hypercube.specs.Bits.{width}
@@ -19,7 +19,6 @@ use Rattle.hypercube.proofs.Tests.{Means, means-iff, means-eq, means-le, means-
 use Rattle.state.specs.declared.State.{State}
 pub use Rattle.state.specs.Valid.{Valid}
 use Rattle.state.specs.Valid.{allBelow, anyBelow, entryRight, mapRight, nodeRight, nodesRight, valid}
-use Rattle.state.proofs.Below.{all-split, all-same}
 
 -- ---- tests below a number
 
@@ -162,21 +161,6 @@ means-valid s long =
 
 -- ---- the test, part by part
 
--- a node from N up
-abbrev empty : List ℕ → List ℕ → ℕ → Bool
-empty hs cs x = eqb (getD hs x 0) 0 && eqb (getD cs x 0) 0
-
-nodes-parts : (hs cs : List ℕ) (N : ℕ) → N ≤ 1024
-    → allBelow (λ x. leb (getD cs x 0) 2) N && allBelow (λ i. empty hs cs (N + i)) (1024 - N) ≡ nodesRight hs cs N
-unfolding nodesRight nodeRight
-nodes-parts hs cs N h =
-    let e : N + (1024 - N) ≡ 1024 = omega arith in
-    ap₂ _&&_
-    (all-same (λ x. leb (getD cs x 0) 2) (nodeRight hs cs N) N (λ x l. rw (lt-ltb x N l)))
-    (all-same (λ i. empty hs cs (N + i)) (λ i. nodeRight hs cs N (N + i)) (1024 - N) (λ i l. let g : N ≤ N + i = omega arith in rw (le-ltb (N + i) N g)))
-    ∙ sym (all-split (nodeRight hs cs N) N (1024 - N))
-    ∙ ap (allBelow (nodeRight hs cs N)) e
-
 module _ (s : State) where
   pub not-small : 10 < s .n → false ≡ valid s
   unfolding valid
@@ -190,9 +174,3 @@ module _ (s : State) where
     pub by-nodes : mapRight (s .map) (s .n) ≡ true → nodesRight (s .holders) (s .conditions) (2 ^ s .n) ≡ valid s
     unfolding valid
     by-nodes e = rw (le-leb (s .n) 10 h, e)
-
-    pub by-parts : mapRight (s .map) (s .n) ≡ true → (N : ℕ) → N ≡ 2 ^ s .n → N ≤ 1024
-        → (a b : Bool) → a ≡ allBelow (λ x. leb (getD (s .conditions) x 0) 2) N
-        → b ≡ allBelow (λ i. empty (s .holders) (s .conditions) (N + i)) (1024 - N) → a && b ≡ valid s
-    by-parts e N q l a b ea eb =
-        ap₂ _&&_ ea eb ∙ nodes-parts (s .holders) (s .conditions) N l ∙ ap (nodesRight (s .holders) (s .conditions)) q ∙ by-nodes e

@@ -7,16 +7,17 @@ use hypercube::pow2;
 ghost use mathlib.Core.Path.{_≡_};
 ghost use mathlib.Core.Bool.{true};
 ghost use Prim.Native.Nat.{_+_, _-_, _*_, _%_, _^_, _≤_, _<_, min};
+ghost use lib.ListN.{length};
+ghost use Rattle.hypercube.specs.Lists.{over};
 ghost use Rattle.hypercube.specs.Bits.{bit};
 ghost use Rattle.hypercube.specs.Gray.{G};
 ghost use Rattle.gray.specs.Tables.{labelTable};
 ghost use Rattle.hypercube.specs.Subcubes.{isFree};
-ghost use Rattle.hypercube.specs.Families.{buddyMember, buddy, grayMember, gray, treeMember, tree, more, extended, firstFree, choice};
+ghost use Rattle.hypercube.specs.Families.{buddyMember, buddy, grayMember, gray, treeMember, tree, further, more, extended, firstFree, choice};
 ghost use Rattle.walks.specs.Flagged.{flagged};
 ghost use Rattle.walks.specs.Inside.{Inside, Testable, Highest};
 ghost use Rattle.walks.specs.Each.{eachMember, eachCount, each};
-ghost use Rattle.walks.specs.Blocks.{treeBlock, zeroDigits};
-ghost use Rattle.walks.specs.Stands.{Stands};
+ghost use Rattle.walks.specs.Blocks.{treeBlock, zeroDigits, rows};
 
 // Digit p of x, from 0.
 fn digit(x: u16, p: u16) -> u16
@@ -240,7 +241,49 @@ fn zero_digits(alpha: u16, c: u16, p: u16) -> u16
     c - ones
 }
 
-// Tree: "The least α, and for it the least p, with a free member ends the walk." At k = 0 it is buddy's.
+// The rows of one d and of α from `from` below `to`: by α, by p from `first`, counted on from `before`.
+// "The least α, and for it the least p, with a free member ends the walk."
+fn rows_walk(
+    flags: &[u8; 1024],
+    n: u16,
+    d: u16,
+    l: u16,
+    first: u16,
+    from: u16,
+    to: u16,
+    before: u16,
+) -> Walk
+    requires { ⌜ (l + d < n) × (n ≤ 10) × (first ≤ 1) × (to ≤ 2 ^ (n - l - d)) ⌝ }
+    requires { ⌜ before + length (rows n d l first from to) < 65536 ⌝ }
+    ensures { λ r. ⌜ r ≡ firstFree (isFree (flagged (now (flags .entry)))) (rows n d l first from to) before ⌝ }
+{
+    let digits = n - l - d;
+    let mut tried = before;
+    let mut alpha = from; // the least α
+    'walk: loop {
+        if to <= alpha {
+            break 'walk Walk::NoneFree(tried);
+        }
+        // Where the block is not free, no member that shares it is.
+        if block_free(flags, n, d, l, alpha) {
+            let mut p = first; // and for it the least p
+            while p < digits {
+                if digit(alpha, p) == 0 {
+                    tried += 1;
+                    if block_free(flags, n, d, l, alpha + pow2(p)) {
+                        break 'walk Walk::Found(tree_member(n, d, l, alpha, p), tried);
+                    }
+                }
+                p += 1;
+            }
+        } else {
+            tried += zero_digits(alpha, digits - first, first);
+        }
+        alpha += 1;
+    }
+}
+
+// Tree: the lowest k - 1 bits are stars and one other is, at p. At k = 0 it is buddy's.
 pub fn tree_walk(flags: &[u8; 1024], n: u16, k: u16) -> Walk
     requires { ⌜ (k ≤ n) × (n ≤ 10) ⌝ }
     ensures { λ r. ⌜ r ≡ firstFree (isFree (flagged (now (flags .entry)))) (tree n k) 0 ⌝ }
@@ -249,68 +292,53 @@ pub fn tree_walk(flags: &[u8; 1024], n: u16, k: u16) -> Walk
         return buddy_walk(flags, n, 0);
     }
     let low = k - 1;
-    let digits = n - low;
-    let values = pow2(digits);
-    let mut tried: u16 = 0;
-    let mut alpha: u16 = 0; // the least α
+    rows_walk(flags, n, 0, low, 0, 0, pow2(n - low), 0)
+}
+
+// What extended has for one α beyond the tree's members, "by d from 1, by p from 1", counted on from `before`.
+// A row whose block is not free is counted without a call.
+fn further_walk(flags: &[u8; 1024], n: u16, low: u16, alpha: u16, before: u16) -> Walk
+    requires { ⌜ (low < n) × (n ≤ 10) × (alpha < 2 ^ (n - low)) ⌝ }
+    requires { ⌜ before + length (over (further n low alpha) low 1) < 65536 ⌝ }
+    ensures { λ r. ⌜ r ≡ firstFree (isFree (flagged (now (flags .entry)))) (over (further n low alpha) low 1) before ⌝ }
+{
+    let zeros = zero_digits(alpha, n - low - 1, 1);
+    let mut tried = before;
+    let mut d: u16 = 1; // by d from 1
     'walk: loop {
-        if values <= alpha {
+        if low < d {
             break 'walk Walk::NoneFree(tried);
         }
-        // Where the block is not free, no member that shares it is.
-        if block_free(flags, n, 0, low, alpha) {
-            let mut p: u16 = 0; // and for it the least p
-            while p < digits {
-                if digit(alpha, p) == 0 {
-                    tried += 1;
-                    if block_free(flags, n, 0, low, alpha + pow2(p)) {
-                        break 'walk Walk::Found(tree_member(n, 0, low, alpha, p), tried);
-                    }
-                }
-                p += 1;
-            }
-        } else {
-            tried += zero_digits(alpha, digits, 0);
+        let l = low - d;
+        if block_free(flags, n, d, l, alpha) {
+            let row = rows_walk(flags, n, d, l, 1, alpha, alpha + 1, tried); // by p from 1
+            let Walk::NoneFree(_) = row else {
+                break 'walk row;
+            };
         }
-        alpha += 1;
+        tried += zeros;
+        d += 1;
     }
 }
 
-// What extended has beyond the tree's members, "by α, by d from 1, by p from 1", after `before` were tried.
-fn more_walk(flags: &[u8; 1024], n: u16, k: u16, before: u16) -> Walk
-    requires { ⌜ (1 ≤ k) × (k ≤ n) × (n ≤ 10) ⌝ }
-    requires { ⌜ Stands (flagged (now flags)) (extended n k) (more n (k - 1)) before ⌝ }
-    ensures { λ r. ⌜ r ≡ firstFree (isFree (flagged (now (flags .entry)))) (extended n k) 0 ⌝ }
+// The same for each α.
+fn more_walk(flags: &[u8; 1024], n: u16, low: u16, before: u16) -> Walk
+    requires { ⌜ (low < n) × (n ≤ 10) ⌝ }
+    requires { ⌜ before + length (more n low) < 65536 ⌝ }
+    ensures { λ r. ⌜ r ≡ firstFree (isFree (flagged (now (flags .entry)))) (more n low) before ⌝ }
 {
-    let low = k - 1;
-    let digits = n - low;
-    let alphas = pow2(digits);
+    let alphas = pow2(n - low);
     let mut tried = before;
     let mut alpha: u16 = 0; // by α
     'walk: loop {
         if alphas <= alpha {
             break 'walk Walk::NoneFree(tried);
         }
-        let zeros = zero_digits(alpha, digits - 1, 1);
-        let mut d: u16 = 1; // by d from 1
-        while d < k {
-            let l = low - d;
-            if block_free(flags, n, d, l, alpha) {
-                let mut p: u16 = 1; // by p from 1
-                while p < digits {
-                    if digit(alpha, p) == 0 {
-                        tried += 1;
-                        if block_free(flags, n, d, l, alpha + pow2(p)) {
-                            break 'walk Walk::Found(tree_member(n, d, l, alpha, p), tried);
-                        }
-                    }
-                    p += 1;
-                }
-            } else {
-                tried += zeros;
-            }
-            d += 1;
-        }
+        let rows = further_walk(flags, n, low, alpha, tried);
+        let Walk::NoneFree(t) = rows else {
+            break 'walk rows;
+        };
+        tried = t;
         alpha += 1;
     }
 }
@@ -327,7 +355,7 @@ pub fn extended_walk(flags: &[u8; 1024], n: u16, k: u16) -> Walk
     let Walk::NoneFree(tried) = first else {
         return first;
     };
-    more_walk(flags, n, k, tried)
+    more_walk(flags, n, k - 1, tried)
 }
 
 // What a strategy chooses. No strategy above 3 has a member.

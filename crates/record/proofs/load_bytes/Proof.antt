@@ -1,34 +1,58 @@
--- `record::load_bytes` meets its contract. Assumes nothing.
-use mathlib.Core.Path.{_∙_}
-use borrow.Author.Needs.{needs}
-use Rattle.record.proofs.Copies.{loaded}
+-- `record::load_bytes` meets its contract: the loop fills part from the front. Assumes nothing.
+use Prim.Native.Nat.{_+_, _-_}
+use mathlib.Core.Path.{refl}
+use native.Mathlib.Omega.{arith}
+use lib.ListN.{length, getD}
+use Rattle.hypercube.specs.Filled.{Filled}
+use Rattle.hypercube.proofs.Filled.{filled-none, filled-next, filled-all}
 use Rattle.record.proofs.load_bytes.Statement.{statement}
 use Rattle.record.proofs.load_bytes.Tie as tie
 
-add-end : tie.Need-add-end
-add-end c = search needs
+abbrev Inv-loop : tie.InvT-loop
+Inv-loop bytes at part₀ i₀ part i = Filled (λ k. getD bytes (at + k) 0) 0 (length part₀) i part
 
-sub-copy : tie.Need-sub-copy
-sub-copy c = search needs
+abbrev μ-loop : tie.MeasureT-loop
+μ-loop bytes at part₀ i₀ part i = length part₀ - i
 
-part-copy-start : tie.Need-part-copy-start
-part-copy-start c = search needs
+loop-holds : tie.Need-loop-holds Inv-loop μ-loop
+loop-holds c = filled-none refl
 
-part-copy-end : tie.Need-part-copy-end
-part-copy-end c = search needs
+add-part : tie.Need-add-part Inv-loop μ-loop
+add-part c = omega arith
 
-copy-requires : tie.Need-copy-requires
-copy-requires c κs = search needs
+shared-slice-read-part : tie.Need-shared-slice-read-part Inv-loop μ-loop
+shared-slice-read-part c = omega arith
 
-same-length : tie.Need-same-length
-same-length c = search needs
+slice-write-part : tie.Need-slice-write-part Inv-loop μ-loop
+slice-write-part c = omega arith
 
-returns : tie.Need-returns
-returns c =
-    let start = c .before .before .before .before .before .before .before in
-    c .before .before .copy .ensures .1 ∙ loaded (start .args .bytes .now) (start .args .at) (start .args .part .now) (start .pre)
+add-i : tie.Need-add-i Inv-loop μ-loop
+add-i c = omega arith
+
+loop-less : tie.Need-loop-less Inv-loop μ-loop
+loop-less c = omega arith
+
+loop-again : tie.Need-loop-again Inv-loop μ-loop
+loop-again c = filled-next _ (c .before .before .loop .inv) (omega arith) refl
+
+same-length : tie.Need-same-length Inv-loop μ-loop
+same-length c = c .before .loop .inv .long
+
+returns : tie.Need-returns Inv-loop μ-loop
+returns c = filled-all (c .before .loop .inv) (omega arith)
 
 pub load-bytes-spec : {M : Type 1} → statement M
 load-bytes-spec =
     tie.close
-    (tie.spec add-end sub-copy part-copy-start part-copy-end copy-requires same-length returns)
+    (tie.spec
+    Inv-loop
+    μ-loop
+    loop-holds
+    add-part
+    shared-slice-read-part
+    slice-write-part
+    add-i
+    loop-less
+    loop-again
+    same-length
+    returns)

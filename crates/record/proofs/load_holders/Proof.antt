@@ -4,8 +4,7 @@ use mathlib.Core.Path.{refl}
 use native.Mathlib.Omega.{arith}
 use Rattle.history.specs.Calls.{word}
 use Rattle.hypercube.specs.Filled.{Filled}
-use Rattle.hypercube.proofs.Lists.{is-each}
-use Rattle.hypercube.proofs.Filled.{filled-none, filled-next}
+use Rattle.hypercube.proofs.Filled.{filled-none, filled-next, filled-all}
 use Rattle.record.proofs.load_holders.Statement.{statement}
 use Rattle.record.proofs.load_holders.Tie as tie
 
@@ -43,7 +42,7 @@ loop-again : tie.Need-loop-again Inv-loop μ-loop
 loop-again c = filled-next _ (c .before .before .loop .inv) (c .before .loop-test .taken) (c .word .ensures)
 
 returns : tie.Need-returns Inv-loop μ-loop
-returns c = is-each _ 1024 _ (c .before .loop .inv .long) (λ k h. c .before .loop .inv .front k (omega (arith, c .loop-test .left)))
+returns c = filled-all (c .before .loop .inv) (c .loop-test .left)
 
 pub load-holders-spec : {M : Type 1} → statement M
 load-holders-spec =

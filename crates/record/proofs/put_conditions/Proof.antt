@@ -1,36 +1,64 @@
--- `record::put_conditions` meets its contract. Assumes nothing.
+-- `record::put_conditions` meets its contract: the loop stores a byte of each condition. Assumes nothing.
+use Prim.Native.Nat.{_+_, _-_, _≤_}
+use mathlib.Core.Path.{sym, _∙_}
 use native.Mathlib.Omega.{arith}
 use borrow.Author.Needs.{needs}
+use Rattle.hypercube.proofs.Filled.{filled-next, filled-to}
+use Rattle.record.specs.Stored.{Stored}
 use Rattle.record.proofs.Round.{Sized, encode-condition}
-use Rattle.record.proofs.Stored.{stored-part}
 use Rattle.record.proofs.put_conditions.Statement.{statement}
 use Rattle.record.proofs.put_conditions.Tie as tie
 
-sized : (c : tie.Start) → Sized (c .args .t1)
+abbrev Inv-loop : tie.InvT-loop
+Inv-loop bytes₀ s x₀ bytes x = (x ≤ 1024) × Stored s (2064 + x) bytes
+
+abbrev μ-loop : tie.MeasureT-loop
+μ-loop bytes₀ s x₀ bytes x = 1024 - x
+
+sized : (c : tie.Start Inv-loop μ-loop) → Sized (c .args .t1)
 sized c = record { directions = search needs; holders = search needs; conditions = search needs }
 
-sub-copy : tie.Need-sub-copy
-sub-copy c = search needs
+loop-holds : tie.Need-loop-holds Inv-loop μ-loop
+loop-holds c = (omega arith, c .pre)
 
-part-copy-start : tie.Need-part-copy-start
-part-copy-start c = search needs
+element-copy-out-bytes : tie.Need-element-copy-out-bytes Inv-loop μ-loop
+element-copy-out-bytes c = omega arith
 
-part-copy-end : tie.Need-part-copy-end
-part-copy-end c = search needs
+add-bytes : tie.Need-add-bytes Inv-loop μ-loop
+add-bytes c = omega arith
 
-copy-requires : tie.Need-copy-requires
-copy-requires c κs = search needs
+slice-write-bytes : tie.Need-slice-write-bytes Inv-loop μ-loop
+slice-write-bytes c = omega arith
 
-same-length : tie.Need-same-length
-same-length c = search needs
+add-x : tie.Need-add-x Inv-loop μ-loop
+add-x c = omega arith
 
-returns : tie.Need-returns
-returns c =
-    let start = c .before .before .before .before .before .before .before .before in
-    let z = sized start in
-    stored-part _ _ 2064 3088 (start .args .t1 .conditions) (start .pre) (omega arith) (omega arith) (z .conditions) (λ k b. encode-condition _ z k)
-    (c .before .before .copy .ensures .1)
+loop-less : tie.Need-loop-less Inv-loop μ-loop
+loop-less c = omega arith
+
+loop-again : tie.Need-loop-again Inv-loop μ-loop
+loop-again c =
+    let v = sym (encode-condition _ (sized (c .before .before .before)) _) in
+    (omega arith, filled-to _ (filled-next _ (c .before .before .loop .inv .1) (omega arith) v) (omega arith))
+
+same-length : tie.Need-same-length Inv-loop μ-loop
+same-length c = c .before .loop .inv .1 .long ∙ sym (c .before .before .pre .long)
+
+returns : tie.Need-returns Inv-loop μ-loop
+returns c = filled-to 3088 (c .before .loop .inv .1) (omega arith)
 
 pub put-conditions-spec : {M : Type 1} → statement M
 put-conditions-spec =
-    tie.close (tie.spec sub-copy part-copy-start part-copy-end copy-requires same-length returns)
+    tie.close
+    (tie.spec
+    Inv-loop
+    μ-loop
+    loop-holds
+    element-copy-out-bytes
+    add-bytes
+    slice-write-bytes
+    add-x
+    loop-less
+    loop-again
+    same-length
+    returns)

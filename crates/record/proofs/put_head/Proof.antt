@@ -1,94 +1,95 @@
--- `record::put_head` meets its contract: the first five bytes one by one, then the map, then the zero byte. Assumes nothing.
-use Prim.Native.Nat.{ℕ}
-use mathlib.Core.Path.{_≡_, refl, sym, _∙_}
-use mathlib.Core.List.{List}
+-- `record::put_head` meets its contract: the first five bytes by themselves, the map by a loop, then the zero byte. Assumes nothing.
+use Prim.Native.Nat.{_+_, _-_, _≤_}
+use mathlib.Core.Path.{refl, sym, _∙_}
 use native.Mathlib.Omega.{arith}
 use borrow.Author.Needs.{needs}
-use borrow.Rule.Slice.PartMut.{putMid}
-use lib.ListN.{length, set, length-set}
-use Rattle.hypercube.proofs.Filled.{filled-none, filled-next}
-use Rattle.state.specs.declared.State.{State}
+use lib.ListN.{length-set}
+use Rattle.hypercube.proofs.Filled.{filled-none, filled-next, filled-to}
 use Rattle.record.specs.Layout.{encode}
 use Rattle.record.specs.Stored.{Stored}
 use Rattle.record.proofs.Round.{Sized, encode-map, encode-zero}
-use Rattle.record.proofs.Stored.{stored-part}
 use Rattle.record.proofs.put_head.Statement.{statement}
 use Rattle.record.proofs.put_head.Tie as tie
 
-sized : (c : tie.Start) → Sized (c .args .t1)
+abbrev Inv-loop : tie.InvT-loop
+Inv-loop bytes₀ s i₀ bytes i = (i ≤ 10) × Stored s (5 + i) bytes
+
+abbrev μ-loop : tie.MeasureT-loop
+μ-loop bytes₀ s i₀ bytes i = 10 - i
+
+sized : (c : tie.Start Inv-loop μ-loop) → Sized (c .args .t1)
 sized c = record { directions = search needs; holders = search needs; conditions = search needs }
 
--- the first five bytes stored over r
-abbrev five : State → List ℕ → List ℕ
-five s r = set (set (set (set (set r 0 16) 1 12) 2 1) 3 0) 4 (s .n)
+slice-write-bytes : tie.Need-slice-write-bytes Inv-loop μ-loop
+slice-write-bytes c = omega arith
 
-stored-five : (s : State) (r : List ℕ) → length r ≡ 3088 → Stored s 5 (five s r)
-unfolding encode
-stored-five s r e =
-    let h0 : Stored s 0 r = filled-none e in
-    let h2 = filled-next 12 (filled-next 16 h0 (omega arith) refl) (omega arith) refl in
-    filled-next (s .n) (filled-next 0 (filled-next 1 h2 (omega arith) refl) (omega arith) refl) (omega arith) refl
+slice-write-bytes-2 : tie.Need-slice-write-bytes-2 Inv-loop μ-loop
+slice-write-bytes-2 c = simp length-set (omega arith)
 
--- and the map
-stored-map : (c : tie.After-slice-known2)
-    → let a = c .before .before .before .before .before .before .before .before .args in
-    Stored (a .t1) 15 (putMid 5 10 (five (a .t1) (a .bytes .now)) (c .before .before .copy .last .1 .0))
-stored-map c =
-    let start = c .before .before .before .before .before .before .before .before in
-    let z = sized start in
-    let S = stored-five (start .args .t1) (start .args .bytes .now) (start .pre) in
-    stored-part _ _ 5 15 (start .args .t1 .map) S (omega arith) (omega arith) (z .directions) (encode-map _ z) (c .before .before .copy .ensures .1)
+slice-write-bytes-3 : tie.Need-slice-write-bytes-3 Inv-loop μ-loop
+slice-write-bytes-3 c = simp length-set (omega arith)
 
-slice-write-bytes : tie.Need-slice-write-bytes
-slice-write-bytes c = search needs
+slice-write-bytes-4 : tie.Need-slice-write-bytes-4 Inv-loop μ-loop
+slice-write-bytes-4 c = simp length-set (omega arith)
 
-slice-write-bytes-2 : tie.Need-slice-write-bytes-2
-slice-write-bytes-2 c = search needs
-
-slice-write-bytes-3 : tie.Need-slice-write-bytes-3
-slice-write-bytes-3 c = search needs
-
-slice-write-bytes-4 : tie.Need-slice-write-bytes-4
-slice-write-bytes-4 c = search needs
-
-slice-write-bytes-5 : tie.Need-slice-write-bytes-5
+slice-write-bytes-5 : tie.Need-slice-write-bytes-5 Inv-loop μ-loop
 slice-write-bytes-5 c = simp length-set (omega arith)
 
-sub-copy : tie.Need-sub-copy
-sub-copy c = search needs
+loop-holds : tie.Need-loop-holds Inv-loop μ-loop
+unfolding encode
+loop-holds c =
+    let h0 : Stored (c .args .t1) 0 (c .args .bytes .now) = filled-none (c .pre) in
+    let h2 = filled-next 12 (filled-next 16 h0 (omega arith) refl) (omega arith) refl in
+    let h4 = filled-next 0 (filled-next 1 h2 (omega arith) refl) (omega arith) refl in
+    (omega arith, filled-next _ h4 (omega arith) refl)
 
-part-copy-start : tie.Need-part-copy-start
-part-copy-start c = search needs
+element-copy-out-bytes : tie.Need-element-copy-out-bytes Inv-loop μ-loop
+element-copy-out-bytes c = omega arith
 
-part-copy-end : tie.Need-part-copy-end
-part-copy-end c = simp length-set (omega arith)
+add-bytes : tie.Need-add-bytes Inv-loop μ-loop
+add-bytes c = omega arith
 
-copy-requires : tie.Need-copy-requires
-copy-requires c κs = search needs
+slice-write-bytes-6 : tie.Need-slice-write-bytes-6 Inv-loop μ-loop
+slice-write-bytes-6 c = omega (arith, c .before .before .loop .inv .1 .long)
 
-slice-write-bytes-6 : tie.Need-slice-write-bytes-6
-slice-write-bytes-6 c = omega (arith, stored-map c .long)
+add-i : tie.Need-add-i Inv-loop μ-loop
+add-i c = omega arith
 
-same-length : tie.Need-same-length
-same-length c = simp length-set (stored-map c .long ∙ sym (c .before .before .before .before .before .before .before .before .pre))
+loop-less : tie.Need-loop-less Inv-loop μ-loop
+loop-less c = omega arith
 
-returns : tie.Need-returns
-returns c =
-    filled-next 0 (stored-map c) (omega arith) (sym (encode-zero _ (sized (c .before .before .before .before .before .before .before .before))))
+loop-again : tie.Need-loop-again Inv-loop μ-loop
+loop-again c =
+    let v = sym (encode-map _ (sized (c .before .before .before)) (c .before .before .loop .i) (omega arith)) in
+    (omega arith, filled-to _ (filled-next _ (c .before .before .loop .inv .1) (omega arith) v) (omega arith))
+
+slice-write-bytes-7 : tie.Need-slice-write-bytes-7 Inv-loop μ-loop
+slice-write-bytes-7 c = omega (arith, c .before .loop .inv .1 .long)
+
+same-length : tie.Need-same-length Inv-loop μ-loop
+same-length c = simp length-set (c .before .loop .inv .1 .long ∙ sym (c .before .before .pre))
+
+returns : tie.Need-returns Inv-loop μ-loop
+returns c = filled-next 0 (filled-to 15 (c .before .loop .inv .1) (omega arith)) (omega arith) (sym (encode-zero _ (sized (c .before .before))))
 
 pub put-head-spec : {M : Type 1} → statement M
 put-head-spec =
     tie.close
     (tie.spec
+    Inv-loop
+    μ-loop
     slice-write-bytes
     slice-write-bytes-2
     slice-write-bytes-3
     slice-write-bytes-4
     slice-write-bytes-5
-    sub-copy
-    part-copy-start
-    part-copy-end
-    copy-requires
+    loop-holds
+    element-copy-out-bytes
+    add-bytes
     slice-write-bytes-6
+    add-i
+    loop-less
+    loop-again
+    slice-write-bytes-7
     same-length
     returns)
