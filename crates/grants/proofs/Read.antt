@@ -1,10 +1,8 @@
 -- The map and the holders, read from a record that is one. Assumes nothing.
-use Prim.Native.Nat.{ℕ, _+_, _≤_}
+use Prim.Native.Nat.{ℕ, _≤_}
 use mathlib.Core.Path.{_≡_}
 use mathlib.Core.Bool.{true}
-use mathlib.Core.List.{List, map}
-use lib.ListN.{getD}
-use Rattle.hypercube.specs.Lists.{from}
+use mathlib.Core.List.{List}
 use Rattle.labels.specs.Directions.{Directions}
 use Rattle.labels.specs.Flags.{EmptyFrom}
 use Rattle.labels.proofs.Directions.{directions}
@@ -20,9 +18,5 @@ module _ (r : List ℕ) (v : validRecord r ≡ true) where
       record { entries = sized-decode r .holders; within = few; empty = λ x g l. state-valid r v .no-holders x (rw (← e) g) l }
 
   -- the map that was loaded
-  pub map-loaded : {ds : List ℕ} → ds ≡ map (λ i. getD r (5 + i) 0) (from 0 10) → ds ≡ decode r .map
-  unfolding decode
-  map-loaded e = e
-
   pub map-directions : {ds : List ℕ} → ds ≡ decode r .map → Directions ds
   map-directions e = rw e (directions (decode r .n) (decode r .map) (state-valid r v .small) (state-valid r v .permutes))

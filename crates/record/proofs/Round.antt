@@ -9,7 +9,6 @@ use native.Mathlib.Omega.{arith}
 use borrow.Author.Tests.{eq-eqb}
 use lib.ListN.{length, getD, length-append, List·getD-append}
 use lib.Seq.{ext-getD}
-use Rattle.hypercube.specs.Lists.{from}
 use Rattle.hypercube.proofs.Bits.{lt-or}
 use Rattle.hypercube.proofs.Lists.{getD-past, length-of, getD-each, is-each}
 use Rattle.hypercube.proofs.Tests.{means-eq, means-and}
@@ -135,10 +134,8 @@ pub encoded-long : {r : List ℕ} → Encoded r → length r ≡ 3088
 encoded-long {r} e = ap length (sym e) ∙ length-encode (decode r) (sized-decode r)
 
 -- the state made of what was read, part by part
-pub decode-parts : (r : List ℕ) (m : ℕ) (ds hs cs : List ℕ) → m ≡ decode r .n → ds ≡ map (λ i. getD r (5 + i) 0) (from 0 10)
-    → hs ≡ map (λ x. word r (16 + 2 * x)) (from 0 1024) → cs ≡ map (λ x. getD r (2064 + x) 0) (from 0 1024)
+pub decode-parts : (r : List ℕ) (m : ℕ) (ds hs cs : List ℕ) → m ≡ decode r .n → ds ≡ decode r .map → hs ≡ decode r .holders → cs ≡ decode r .conditions
     → record { n = m; map = ds; holders = hs; conditions = cs } ≡ decode r
-unfolding decode
 decode-parts r m ds hs cs e d h c = rw (e, d, h, c)
 
 pub decode-map : (r : List ℕ) (i : ℕ) → i < 10 → getD (decode r .map) i 0 ≡ getD r (5 + i) 0

@@ -50,7 +50,7 @@ fn load_bytes(bytes: &[u8], at: usize, part: &mut [u8])
 
 pub fn load_map(bytes: &[u8]) -> [u8; 10]
     requires { ⌜ length (now bytes) ≡ 3088 ⌝ }
-    ensures { λ r. ⌜ r ≡ map (λ i. getD (now (bytes .entry)) (5 + i) 0) (from 0 10) ⌝ }
+    ensures { λ r. ⌜ r ≡ decode (now (bytes .entry)) .map ⌝ }
 {
     let mut map = [0; 10];
     load_bytes(bytes, 5, &mut map);
@@ -59,7 +59,7 @@ pub fn load_map(bytes: &[u8]) -> [u8; 10]
 
 fn load_holders(bytes: &[u8]) -> [u16; 1024]
     requires { ⌜ length (now bytes) ≡ 3088 ⌝ }
-    ensures { λ r. ⌜ r ≡ map (λ x. word (now (bytes .entry)) (16 + 2 * x)) (from 0 1024) ⌝ }
+    ensures { λ r. ⌜ r ≡ decode (now (bytes .entry)) .holders ⌝ }
 {
     let mut holders = [0; 1024];
     let mut x = 0;
@@ -72,7 +72,7 @@ fn load_holders(bytes: &[u8]) -> [u16; 1024]
 
 fn load_conditions(bytes: &[u8]) -> [u8; 1024]
     requires { ⌜ length (now bytes) ≡ 3088 ⌝ }
-    ensures { λ r. ⌜ r ≡ map (λ x. getD (now (bytes .entry)) (2064 + x) 0) (from 0 1024) ⌝ }
+    ensures { λ r. ⌜ r ≡ decode (now (bytes .entry)) .conditions ⌝ }
 {
     let mut conditions = [0; 1024];
     load_bytes(bytes, 2064, &mut conditions);

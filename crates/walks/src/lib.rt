@@ -321,7 +321,7 @@ fn further_walk(flags: &[u8; 1024], n: u16, low: u16, alpha: u16, before: u16) -
     }
 }
 
-// The same for each α.
+// The same for each α: all that extended has beyond the tree's members.
 fn more_walk(flags: &[u8; 1024], n: u16, low: u16, before: u16) -> Walk
     requires { ⌜ (low < n) × (n ≤ 10) ⌝ }
     requires { ⌜ before + length (more n low) < 65536 ⌝ }

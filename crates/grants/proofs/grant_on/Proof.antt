@@ -1,19 +1,14 @@
 -- `grants::grant_on` meets its contract. Assumes nothing.
 use borrow.Author.Needs.{needs}
-use mathlib.Core.Path.{_≡_, refl, sym, _∙_}
+use mathlib.Core.Path.{refl, sym, _∙_}
 use native.Mathlib.Omega.{arith}
 use Rattle.state.specs.declared.Reply.the-variants.{Refused}
 use Rattle.state.proofs.Steps.{grant-14, grant-found}
-use Rattle.record.specs.Layout.{decode}
 use Rattle.steps.proofs.Ways.{state-valid, whole, told-only, accepts}
-use Rattle.grants.proofs.Read.{map-loaded, map-directions}
+use Rattle.grants.proofs.Read.{map-directions}
 use Rattle.grants.proofs.Grants.{lowest-of}
 use Rattle.grants.proofs.grant_on.Statement.{statement}
 use Rattle.grants.proofs.grant_on.Tie as tie
-
--- the map that was loaded is the state's
-loaded : (c : tie.After-load-map) → c .load-map .result ≡ decode (c .before .before .before .args .rec .now) .map
-loaded c = map-loaded _ (c .before .before .before .pre .0) (c .load-map .ensures)
 
 load-map-requires : tie.Need-load-map-requires
 load-map-requires c κs = whole _ (c .before .before .pre .0) .0
@@ -21,7 +16,7 @@ load-map-requires c κs = whole _ (c .before .before .pre .0) .0
 walk-of-requires : tie.Need-walk-of-requires
 walk-of-requires c κs =
     let start = c .before .before .before .before .before in
-    (start .pre .0, (loaded (c .before .before), start .pre .1))
+    (start .pre .0, (c .before .before .load-map .ensures, start .pre .1))
 
 tried-in-requires : tie.Need-tried-in-requires
 tried-in-requires c κs = search needs
@@ -44,12 +39,12 @@ returns c =
 node-of-requires : tie.Need-node-of-requires
 node-of-requires c κs =
     let load = c .before .before .before .before .before .before .before .before in
-    map-directions _ (load .before .before .before .pre .0) (loaded load)
+    map-directions _ (load .before .before .before .pre .0) (load .load-map .ensures)
 
 node-of-requires-2 : tie.Need-node-of-requires-2
 node-of-requires-2 c κs =
     let load = c .before .before .before .before .before .before .before .before .before .before in
-    map-directions _ (load .before .before .before .pre .0) (loaded load)
+    map-directions _ (load .before .before .before .pre .0) (load .load-map .ensures)
 
 give-requires : tie.Need-give-requires
 give-requires c κs =
@@ -62,7 +57,7 @@ give-requires c κs =
       whole _ (start .pre .0),
       lowest-of _ (state-valid _ (start .pre .0)) (start .args .k) (start .args .strategy) (start .pre .1) _ _
           (sym (walk .walk-of .ensures) ∙ told .walk .given .1)
-          (loaded load) (first .node-of .ensures) (second .node-of2 .ensures),
+          (load .load-map .ensures) (first .node-of .ensures) (second .node-of2 .ensures),
     )
 
 same-length-2 : tie.Need-same-length-2
@@ -78,7 +73,7 @@ returns-2 c =
     let load = tried .before .before .before .before in
     accepts _ _ _ refl
     (grant-found _ _ _ _ (tried .before .walk-of .ensures) _ (tried .tried-in .ensures) _ _ (told .walk .given .1)
-    (loaded load) _ (first .node-of .ensures) _ (second .node-of2 .ensures))
+    (load .load-map .ensures) _ (first .node-of .ensures) _ (second .node-of2 .ensures))
     (gave .give .ensures)
 
 pub grant-on-spec : {M : Type 1} → statement M

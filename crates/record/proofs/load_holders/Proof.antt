@@ -5,6 +5,7 @@ use native.Mathlib.Omega.{arith}
 use Rattle.history.specs.Calls.{word}
 use Rattle.hypercube.specs.Filled.{Filled}
 use Rattle.hypercube.proofs.Filled.{filled-none, filled-next, filled-all}
+use Rattle.record.specs.Layout.{decode}
 use Rattle.record.proofs.load_holders.Statement.{statement}
 use Rattle.record.proofs.load_holders.Tie as tie
 
@@ -42,6 +43,7 @@ loop-again : tie.Need-loop-again Inv-loop μ-loop
 loop-again c = filled-next _ (c .before .before .loop .inv) (c .before .loop-test .taken) (c .word .ensures)
 
 returns : tie.Need-returns Inv-loop μ-loop
+unfolding decode
 returns c = filled-all (c .before .loop .inv) (c .loop-test .left)
 
 pub load-holders-spec : {M : Type 1} → statement M

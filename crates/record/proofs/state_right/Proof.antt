@@ -16,7 +16,6 @@ start c = c .before .before .before .before .before .before
 -- what was found of the map
 map-test : (c : tie.After-map-right)
     → mapRight (decode (start c .args .bytes .now) .map) (decode (start c .args .bytes .now) .n) ≡ c .map-right .result
-unfolding decode
 map-test c =
     let at = c .before .before in
     sym (c .map-right .ensures ∙ ap₂ mapRight (at .load-map .ensures) (at .before .before .dimension .ensures))
