@@ -55,6 +55,14 @@ pub fn worst(n: u32) -> Vec<Row> {
     all.map(|(s, k)| nothing_free(n, k, s)).collect()
 }
 
+/// Those requests again where half the nodes are free, no two of them
+/// neighbours: each free node is met and nothing of k from 1 up is free.
+pub fn scattered(n: u32) -> Vec<Row> {
+    let even: Vec<_> = (0..1 << n).filter(|x: &u16| x.count_ones() % 2 == 0).map(good).collect();
+    let all = (0..STRATEGIES.len()).flat_map(|s| (1..=n).map(move |k| (s, k)));
+    all.map(|(s, k)| Row { before: even.clone(), ..nothing_free(n, k, s) }).collect()
+}
+
 /// A request on a relabelled cube, the map not being the identity.
 pub fn relabelled(n: u32) -> Row {
     let before = [goods(n), vec![fault(0), fault(1 << (n - 1)), relabel()]].concat();

@@ -29,8 +29,10 @@ fn walk_of(rec: &[u8], map: &[u8; 10], k: u8, strategy: u8) -> Walk
     ensures { λ r. ⌜ r ≡ walkOf (decode (now (rec .entry))) k strategy ⌝ }
 {
     let n = record::dimension(rec) as u16;
-    let by_node = nodes::flags_by_node(rec, steps::nodes_of(rec));
-    let flags = labels::flags_by_label(n, map, &by_node);
+    let size = steps::nodes_of(rec);
+    let mut flags = [0; 1024];
+    nodes::flags_by_node(rec, size, &mut flags);
+    labels::flags_by_label(n, map, &mut flags);
     walks::choose(&flags, strategy, n, k as u16)
 }
 

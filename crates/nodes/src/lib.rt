@@ -1,7 +1,7 @@
 // The nodes' holders and conditions, and the map, read and changed on a record's bytes where they lie.
 use hypercube::Node;
 use labels::Relabelled;
-use record::highest;
+use record::all_zero;
 use record::word;
 ghost use mathlib.Core.Path.{_≡_};
 ghost use mathlib.Core.Bool.{true, not, cond};
@@ -96,7 +96,7 @@ pub fn any_held(bytes: &[u8], size: usize) -> bool
     ensures { λ r. ⌜ r ≡ anyBelow (λ x. not (eqb (getD (decode (now (bytes .entry)) .holders) x 0) 0)) size ⌝ }
 {
     let end = 16 + 2 * size;
-    highest(&bytes[16..end]) != 0
+    !all_zero(&bytes[16..end])
 }
 
 // How many of the nodes below `size` a job holds.
@@ -166,16 +166,16 @@ pub fn clear(bytes: &mut [u8], size: usize, job: u16)
     }
 }
 
-// The flags of the nodes below `size`, by node. Condition and holder are read at every node, so the loop compiles to vector code.
-pub fn flags_by_node(bytes: &[u8], size: usize) -> [u8; 1024]
+// The flags of the nodes below `size`, by node, put into flags that are 0 from there up. Condition and holder are read at every node, so the loop
+// compiles to vector code.
+pub fn flags_by_node(bytes: &[u8], size: usize, flags: &mut [u8; 1024])
     requires { ⌜ (length (now bytes) ≡ 3088) × (size ≤ 1024) ⌝ }
-    ensures { λ r. ⌜ r ≡ byNode size (decode (now (bytes .entry)) .conditions) (decode (now (bytes .entry)) .holders) ⌝ }
+    requires { ⌜ EmptyFrom (now flags) size ⌝ }
+    ensures { λ _. ⌜ now (flags .exit) ≡ byNode size (decode (now (bytes .entry)) .conditions) (decode (now (bytes .entry)) .holders) ⌝ }
 {
-    let mut flags = [0; 1024];
     let mut x = 0;
     while x < size {
         flags[x] = labels::flag_of(bytes[2064 + x], word(bytes, 16 + 2 * x));
         x += 1;
     }
-    flags
 }

@@ -5,22 +5,49 @@ use mathlib.Core.Path.{_≡_}
 use mathlib.Core.List.{List, [], _∷_}
 use native.Mathlib.Numerals.{add-one}
 use native.Mathlib.Omega.{arith}
+use lib.Bits.{bitOr, or-add-and, and-le-l, and-le-r}
+use lib.Dec.{eqb}
 use lib.ListN.{length, getD, take, drop, length-take, length-drop, drop-of-length-le}
 use lib.Seq.{drop-cons, getD-take, getD-drop}
-use Rattle.record.specs.Highest.{highestOf}
+use Rattle.hypercube.proofs.Tests.{means-eq, same-test}
+use Rattle.record.specs.Highest.{highestOf, allZero}
+
+-- ---- the entries from i on
+
+module _ (l : List ℕ) (i : ℕ) where
+  highest-from : i < length l → highestOf (drop i l) ≡ max (getD l i 0) (highestOf (drop (i + 1) l))
+  unfolding highestOf
+  highest-from h = rw (drop-cons l i 0 h, add-one i)
+
+  highest-past : length l ≤ i → highestOf (drop i l) ≡ 0
+  unfolding highestOf
+  highest-past h = rw (drop-of-length-le l h)
 
 -- ---- a loop at place i, with m found of the entries before: m, with the highest of what is left, is the highest of all
 
 module _ (l : List ℕ) (i m : ℕ) (found : max m (highestOf (drop i l)) ≡ highestOf l) where
   pub highest-next : i < length l → (v : ℕ) → v ≡ max m (getD l i 0) → max v (highestOf (drop (i + 1) l)) ≡ highestOf l
-  unfolding highestOf
-  highest-next h v e =
-      let next : highestOf (drop i l) ≡ max (getD l i 0) (highestOf (drop (i + 1) l)) = rw (drop-cons l i 0 h, add-one i) in
-      omega arith
+  highest-next h v e = omega (arith, highest-from l i h)
 
   pub highest-end : length l ≤ i → m ≡ highestOf l
-  unfolding highestOf
-  highest-end h = let none : highestOf (drop i l) ≡ 0 = rw (drop-of-length-le l h) in omega arith
+  highest-end h = omega (arith, highest-past l i h)
+
+-- ---- the same with 'or' in place of the greater: what is found is 0 where the highest is
+
+module _ (l : List ℕ) (i m : ℕ) (found : (max m (highestOf (drop i l)) ≡ 0) ↔ (highestOf l ≡ 0)) where
+  pub zero-next : i < length l → (max (bitOr m (getD l i 0)) (highestOf (drop (i + 1) l)) ≡ 0) ↔ (highestOf l ≡ 0)
+  zero-next h =
+      let x = getD l i 0 in
+      let next = highest-from l i h in
+      let a = or-add-and m x in
+      let b = and-le-l m x in
+      let c = and-le-r m x in
+      (λ z. found .0 (omega arith), λ z. omega (arith, found .1 z))
+
+  pub zero-end : length l ≤ i → eqb m 0 ≡ allZero l
+  zero-end h =
+      let none = highest-past l i h in
+      same-test (means-eq m 0) (means-eq (highestOf l) 0) (λ z. found .0 (omega arith), λ z. omega (arith, found .1 z))
 
 -- ---- of every entry
 

@@ -1,10 +1,10 @@
--- Tests of the nodes by the highest bytes of parts of a record. Assumes nothing.
+-- Tests of the nodes by the bytes of parts of a record: the highest, and whether all are 0. Assumes nothing.
 use Prim.Native.Nat.{ℕ, _+_, _*_, _-_, _<_, _≤_}
 use mathlib.Core.Path.{_≡_, sym, ap, _∙_}
-use mathlib.Core.Bool.{Bool, false, not, _&&_}
+use mathlib.Core.Bool.{Bool, true, false, not, _&&_}
 use mathlib.Core.List.{List}
 use native.Mathlib.Omega.{arith}
-use borrow.Author.Tests.{eq-eqb, ne-eqb, le-leb, lt-leb}
+use borrow.Author.Tests.{le-leb, lt-leb}
 use lib.Dec.{eqb, leb}
 use lib.ListN.{length, getD}
 use Rattle.hypercube.proofs.Tests.{Means, means-iff, means-eq, means-le, means-and, same-test}
@@ -12,24 +12,24 @@ use Rattle.history.specs.Calls.{word}
 use Rattle.state.specs.Valid.{anyBelow, nodesRight}
 use Rattle.state.proofs.Below.{any-not}
 use Rattle.state.proofs.Valid.{means-each, means-nodes}
-use Rattle.record.specs.Highest.{highestOf}
+use Rattle.record.specs.Highest.{highestOf, allZero}
 use Rattle.record.specs.Layout.{decode}
 use Rattle.record.proofs.Round.{decode-holder, decode-condition, each-holder}
 use Rattle.record.proofs.Maximum.{part, part-within}
 
--- N nodes, of 1024; the highest byte of the conditions below N, of those from N up, and of the holders from N up
+-- N nodes, of 1024; the highest byte of the conditions below N; whether those from N up, and the holders from N up, are all 0
 module _ (r : List ℕ) (N : ℕ) (long : length r ≡ 3088) (few : N ≤ 1024) where
   abbrev pub conditions-below : ℕ
   conditions-below = highestOf (part r 2064 (2064 + N))
 
-  abbrev pub conditions-beyond : ℕ
-  conditions-beyond = highestOf (part r (2064 + N) 3088)
+  abbrev pub conditions-beyond : Bool
+  conditions-beyond = allZero (part r (2064 + N) 3088)
 
-  abbrev pub holders-beyond : ℕ
-  holders-beyond = highestOf (part r (16 + 2 * N) 2064)
+  abbrev pub holders-beyond : Bool
+  holders-beyond = allZero (part r (16 + 2 * N) 2064)
 
   -- every byte from place a up to place e is 0
-  means-none : (a e : ℕ) → e ≤ 3088 → Means (eqb (highestOf (part r a e)) 0) ((i : ℕ) → a ≤ i → i < e → getD r i 0 ≤ 0)
+  means-none : (a e : ℕ) → e ≤ 3088 → Means (allZero (part r a e)) ((i : ℕ) → a ≤ i → i < e → getD r i 0 ≤ 0)
   means-none a e h =
       let w = part-within r a e (omega arith) 0 in
       means-iff (means-eq (highestOf (part r a e)) 0) (λ z. w .0 (omega arith), λ f. omega (arith, w .1 f))
@@ -43,9 +43,9 @@ module _ (r : List ℕ) (N : ℕ) (long : length r ≡ 3088) (few : N ≤ 1024) 
       let e : 2064 + (i - 2064) ≡ i = omega arith in
       rw e at (rw (decode-condition r (i - 2064) (omega arith)) at p)
 
-  -- a to e: nodes; the highest byte of their holders is 0 where none of them is held
+  -- a to e: nodes; their holders' bytes are all 0 where none of them is held
   means-unheld : (a e : ℕ) → e ≤ 1024
-      → Means (eqb (highestOf (part r (16 + 2 * a) (16 + 2 * e))) 0) ((x : ℕ) → a ≤ x → x < e → getD (decode r .holders) x 0 ≡ 0)
+      → Means (allZero (part r (16 + 2 * a) (16 + 2 * e))) ((x : ℕ) → a ≤ x → x < e → getD (decode r .holders) x 0 ≡ 0)
   unfolding word
   means-unheld a e h =
       means-iff (means-none (16 + 2 * a) (16 + 2 * e) (omega arith)) (
@@ -62,16 +62,15 @@ module _ (r : List ℕ) (N : ℕ) (long : length r ≡ 3088) (few : N ≤ 1024) 
             (omega arith, omega arith)),
       )
 
-  -- whether any of the N nodes is held, by the highest byte of their holders
-  pub any-held : {m : ℕ} → m ≡ highestOf (part r 16 (16 + 2 * N)) → not (eqb m 0) ≡ anyBelow (λ x. not (eqb (getD (decode r .holders) x 0) 0)) N
+  -- whether any of the N nodes is held, by their holders' bytes
+  pub any-held : {b : Bool} → b ≡ allZero (part r 16 (16 + 2 * N)) → not b ≡ anyBelow (λ x. not (eqb (getD (decode r .holders) x 0) 0)) N
   any-held e =
       let test : ℕ → Bool = λ x. eqb (getD (decode r .holders) x 0) 0 in
-      ap (λ (k : ℕ). not (eqb k 0)) e
-      ∙ ap not (same-test (means-unheld 0 N few) (means-each test (λ x. getD (decode r .holders) x 0 ≡ 0) N (λ x l. means-eq (getD (decode r .holders) x 0) 0))
+      ap not (e ∙ same-test (means-unheld 0 N few) (means-each test (λ x. getD (decode r .holders) x 0 ≡ 0) N (λ x l. means-eq (getD (decode r .holders) x 0) 0))
       (λ h x l. h x (omega arith) l, λ h x g l. h x l))
       ∙ sym (any-not test N)
 
-  pub three-parts : (leb conditions-below 2 && (eqb conditions-beyond 0 && eqb holders-beyond 0)) ≡ nodesRight (decode r .holders) (decode r .conditions) N
+  pub three-parts : (leb conditions-below 2 && (conditions-beyond && holders-beyond)) ≡ nodesRight (decode r .holders) (decode r .conditions) N
   three-parts =
       same-test (means-and means-below (means-and (means-none (2064 + N) 3088 (omega arith)) (means-unheld N 1024 (omega arith))))
       (means-nodes (decode r .holders) (decode r .conditions) N) (
@@ -93,9 +92,9 @@ module _ (r : List ℕ) (N : ℕ) (long : length r ≡ 3088) (few : N ≤ 1024) 
   pub not-below : {m : ℕ} → m ≡ conditions-below → 2 < m → false ≡ nodesRight (decode r .holders) (decode r .conditions) N
   not-below {m} e h = rw (← three-parts, ← e, lt-leb m 2 h)
 
-  module _ {m k : ℕ} (e : m ≡ conditions-below) (h : m ≤ 2) (f : k ≡ conditions-beyond) where
-    pub not-beyond : (k ≡ 0 → ⊥) → false ≡ nodesRight (decode r .holders) (decode r .conditions) N
-    not-beyond p = rw (← three-parts, ← e, ← f, le-leb m 2 h, ne-eqb k 0 p)
+  module _ {m : ℕ} {b : Bool} (e : m ≡ conditions-below) (h : m ≤ 2) (f : b ≡ conditions-beyond) where
+    pub not-beyond : b ≡ false → false ≡ nodesRight (decode r .holders) (decode r .conditions) N
+    not-beyond z = rw (← three-parts, ← e, ← f, le-leb m 2 h, z)
 
-    pub by-holders : {t : ℕ} → k ≡ 0 → t ≡ holders-beyond → eqb t 0 ≡ nodesRight (decode r .holders) (decode r .conditions) N
-    by-holders {t} z g = rw (← three-parts, ← e, ← f, ← g, le-leb m 2 h, eq-eqb k 0 z)
+    pub by-holders : {t : Bool} → b ≡ true → t ≡ holders-beyond → t ≡ nodesRight (decode r .holders) (decode r .conditions) N
+    by-holders {t} z g = rw (← three-parts, ← e, ← f, ← g, le-leb m 2 h, z)

@@ -1,6 +1,7 @@
 -- `grants::walk_of` meets its contract. Assumes nothing.
 use borrow.Author.Needs.{needs}
 use native.Mathlib.Omega.{arith}
+use Rattle.labels.proofs.Flags.{empty-zeros}
 use Rattle.record.specs.Layout.{decode}
 use Rattle.steps.proofs.Ways.{state-valid, whole}
 use Rattle.grants.proofs.Grants.{walk-asked, walked}
@@ -17,12 +18,14 @@ nodes-of-requires : tie.Need-nodes-of-requires
 nodes-of-requires c κs = search needs
 
 flags-by-node-requires : tie.Need-flags-by-node-requires
-flags-by-node-requires c κs = (whole _ (c .before .before .before .pre .0) .0, c .nodes-of .ensures .1)
+flags-by-node-requires c κs =
+    let small = c .before .nodes-of .ensures .1 in
+    ((whole _ (c .before .before .before .before .pre .0) .0, small), empty-zeros _ small)
 
 flags-by-label-requires : tie.Need-flags-by-label-requires
 flags-by-label-requires c κs =
     let made = c .before in
-    let count = made .before in
+    let count = made .before .before in
     let read = count .before in
     let start = read .before .before in
     walk-asked (decode (start .args .rec .now)) (state-valid _ (start .pre .0)) (read .dimension .ensures)
@@ -31,7 +34,7 @@ flags-by-label-requires c κs =
 
 choose-requires : tie.Need-choose-requires
 choose-requires c κs =
-    let read = c .before .before .before .before .before in
+    let read = c .before .before .before .before .before .before in
     let start = read .before .before in
     let small = state-valid _ (start .pre .0) .small in
     (omega (arith, read .dimension .ensures, start .pre .1 .1), omega (arith, read .dimension .ensures, small))
@@ -40,7 +43,7 @@ returns : tie.Need-returns
 returns c =
     let moved = c .before .before in
     let made = moved .before .before in
-    let count = made .before in
+    let count = made .before .before in
     let read = count .before in
     let start = read .before .before in
     walked (decode (start .args .rec .now)) (state-valid _ (start .pre .0)) (read .dimension .ensures)

@@ -10,22 +10,22 @@ mul-end c = search needs
 add-end : tie.Need-add-end
 add-end c = search needs
 
-sub-highest : tie.Need-sub-highest
-sub-highest c = search needs
+sub-all-zero : tie.Need-sub-all-zero
+sub-all-zero c = search needs
 
-part-highest-start : tie.Need-part-highest-start
-part-highest-start c = search needs
+part-all-zero-start : tie.Need-part-all-zero-start
+part-all-zero-start c = search needs
 
-part-highest-end : tie.Need-part-highest-end
-part-highest-end c = search needs
+part-all-zero-end : tie.Need-part-all-zero-end
+part-all-zero-end c = search needs
 
-highest-requires : tie.Need-highest-requires
-highest-requires c κs = search needs
+all-zero-requires : tie.Need-all-zero-requires
+all-zero-requires c κs = search needs
 
 returns : tie.Need-returns
 returns c =
     let a = c .before .before .before in
-    any-held _ _ (a .pre .0) (a .pre .1) (c .highest .ensures)
+    any-held _ _ (a .pre .0) (a .pre .1) (c .all-zero .ensures)
 
 pub any-held-spec : {M : Type 1} → statement M
 any-held-spec =
@@ -33,8 +33,8 @@ any-held-spec =
     (tie.spec
     mul-end
     add-end
-    sub-highest
-    part-highest-start
-    part-highest-end
-    highest-requires
+    sub-all-zero
+    part-all-zero-start
+    part-all-zero-end
+    all-zero-requires
     returns)

@@ -6,7 +6,7 @@ use native.Mathlib.Omega.{arith}
 use borrow.Author.Needs.{needs}
 use Rattle.hypercube.proofs.Filled.{Swept, swept-none, swept-put}
 use Rattle.labels.specs.Flags.{flag, flagOf}
-use Rattle.labels.proofs.Flags.{swept-table}
+use Rattle.labels.proofs.Flags.{swept-empty}
 use Rattle.record.specs.Layout.{decode}
 use Rattle.record.proofs.Round.{decode-holder, decode-condition}
 use Rattle.nodes.proofs.flags_by_node.Statement.{statement}
@@ -43,8 +43,8 @@ word-requires c κs = omega arith
 flag-of-requires : tie.Need-flag-of-requires Inv-loop μ-loop
 flag-of-requires c κs = search needs
 
-array-write-flags : tie.Need-array-write-flags Inv-loop μ-loop
-array-write-flags c = omega arith
+element-write-flags : tie.Need-element-write-flags Inv-loop μ-loop
+element-write-flags c = omega arith
 
 add-x : tie.Need-add-x Inv-loop μ-loop
 add-x c = omega arith
@@ -67,7 +67,7 @@ loop-again c =
 returns : tie.Need-returns Inv-loop μ-loop
 returns c =
     let l = c .before .loop in
-    swept-table (c .before .before .before .args .size) _ 0 (l .inv .2) (l .inv .0) (omega arith)
+    swept-empty (c .before .before .before .pre .1) (l .inv .0) (omega arith)
 
 pub flags-by-node-spec : {M : Type 1} → statement M
 flags-by-node-spec =
@@ -82,7 +82,7 @@ flags-by-node-spec =
     add-word
     word-requires
     flag-of-requires
-    array-write-flags
+    element-write-flags
     add-x
     loop-less
     loop-again

@@ -1,5 +1,6 @@
 -- `record::nodes_right` meets its contract. Assumes nothing.
 use borrow.Author.Needs.{needs}
+use borrow.Author.Tests.{not-true, not-false}
 use native.Mathlib.Omega.{arith}
 use Rattle.record.proofs.Parts.{not-below, not-beyond, by-holders}
 use Rattle.record.proofs.nodes_right.Statement.{statement}
@@ -25,23 +26,23 @@ returns c =
     let a = c .before .before .before .before in
     not-below _ _ (a .pre .0) (a .pre .1) (c .before .highest .ensures) (omega arith)
 
-sub-highest-2 : tie.Need-sub-highest-2
-sub-highest-2 c = search needs
+sub-all-zero : tie.Need-sub-all-zero
+sub-all-zero c = search needs
 
-part-highest-start-2 : tie.Need-part-highest-start-2
-part-highest-start-2 c = search needs
+part-all-zero-start : tie.Need-part-all-zero-start
+part-all-zero-start c = search needs
 
-part-highest-end-2 : tie.Need-part-highest-end-2
-part-highest-end-2 c = search needs
+part-all-zero-end : tie.Need-part-all-zero-end
+part-all-zero-end c = search needs
 
-highest-requires-2 : tie.Need-highest-requires-2
-highest-requires-2 c κs = search needs
+all-zero-requires : tie.Need-all-zero-requires
+all-zero-requires c κs = search needs
 
 returns-2 : tie.Need-returns-2
 returns-2 c =
     let a = c .before .before .before .before .before .before .before in
-    not-beyond _ _ (a .pre .0) (a .pre .1) (c .before .before .before .before .highest .ensures) (omega arith) (c .before .highest2 .ensures)
-    (omega arith)
+    not-beyond _ _ (a .pre .0) (a .pre .1) (c .before .before .before .before .highest .ensures) (omega arith) (c .before .all-zero .ensures)
+    (not-true _ (c .if2 .taken))
 
 mul-held : tie.Need-mul-held
 mul-held c = search needs
@@ -49,24 +50,24 @@ mul-held c = search needs
 add-held : tie.Need-add-held
 add-held c = search needs
 
-sub-highest-3 : tie.Need-sub-highest-3
-sub-highest-3 c = search needs
+sub-all-zero-2 : tie.Need-sub-all-zero-2
+sub-all-zero-2 c = search needs
 
-part-highest-start-3 : tie.Need-part-highest-start-3
-part-highest-start-3 c = search needs
+part-all-zero-start-2 : tie.Need-part-all-zero-start-2
+part-all-zero-start-2 c = search needs
 
-part-highest-end-3 : tie.Need-part-highest-end-3
-part-highest-end-3 c = search needs
+part-all-zero-end-2 : tie.Need-part-all-zero-end-2
+part-all-zero-end-2 c = search needs
 
-highest-requires-3 : tie.Need-highest-requires-3
-highest-requires-3 c κs = search needs
+all-zero-requires-2 : tie.Need-all-zero-requires-2
+all-zero-requires-2 c κs = search needs
 
 returns-3 : tie.Need-returns-3
 returns-3 c =
     let a = c .before .before .before .before .before .before .before .before .before in
     let at = c .before .before in
     by-holders _ _ (a .pre .0) (a .pre .1) (at .before .before .before .before .highest .ensures) (omega arith)
-    (at .before .highest2 .ensures) (omega arith) (c .highest3 .ensures)
+    (at .before .all-zero .ensures) (not-false _ (at .if2 .left)) (c .all-zero2 .ensures)
 
 pub nodes-right-spec : {M : Type 1} → statement M
 nodes-right-spec =
@@ -78,15 +79,15 @@ nodes-right-spec =
     part-highest-end
     highest-requires
     returns
-    sub-highest-2
-    part-highest-start-2
-    part-highest-end-2
-    highest-requires-2
+    sub-all-zero
+    part-all-zero-start
+    part-all-zero-end
+    all-zero-requires
     returns-2
     mul-held
     add-held
-    sub-highest-3
-    part-highest-start-3
-    part-highest-end-3
-    highest-requires-3
+    sub-all-zero-2
+    part-all-zero-start-2
+    part-all-zero-end-2
+    all-zero-requires-2
     returns-3)
