@@ -46,8 +46,8 @@ fn main() -> std::io::Result<()> {
     let mut ratios = Ratios::default();
     ratios.rows("each call", [4, 7, 10].into_iter().flat_map(rows::calls));
     ratios.rows("on a relabelled cube", [4, 7, 10].into_iter().map(rows::relabelled));
-    ratios.rows("nothing free", rows::worst(10));
-    ratios.rows("nothing free, half the nodes free, no two neighbours", rows::scattered(10));
+    ratios.rows("nothing free", rows::none(10));
+    ratios.rows("no member free, though half the nodes are", rows::scattered(10));
     ratios.rows("how cost grows with n", (0..=10).flat_map(rows::grown));
     let programs = std::env::args().nth(1).zip(std::env::args().nth(2));
     if let Some((ours, theirs)) = programs {

@@ -49,18 +49,22 @@ fn nothing_free(n: u32, k: u32, strategy: usize) -> Row {
     row(&name, n, vec![], request(7, k as u8, strategy as u8))
 }
 
-/// The worst requests at one n: every strategy, every k.
-pub fn worst(n: u32) -> Vec<Row> {
-    let all = (0..STRATEGIES.len()).flat_map(|s| (0..=n).map(move |k| (s, k)));
-    all.map(|(s, k)| nothing_free(n, k, s)).collect()
+/// Such requests of every strategy and of every k from the least up.
+fn every_request(n: u32, least: u32, before: &[Vec<u8>]) -> Vec<Row> {
+    let all = (0..STRATEGIES.len()).flat_map(|s| (least..=n).map(move |k| (s, k)));
+    all.map(|(s, k)| Row { before: before.to_vec(), ..nothing_free(n, k, s) }).collect()
 }
 
-/// Those requests again where half the nodes are free, no two of them
-/// neighbours: each free node is met and nothing of k from 1 up is free.
+/// Requests where no node is free.
+pub fn none(n: u32) -> Vec<Row> {
+    every_request(n, 0, &[])
+}
+
+/// Requests where half the nodes are free, no two of them neighbours: a walk
+/// meets them all, and no subcube of k from 1 up is free.
 pub fn scattered(n: u32) -> Vec<Row> {
-    let even: Vec<_> = (0..1 << n).filter(|x: &u16| x.count_ones() % 2 == 0).map(good).collect();
-    let all = (0..STRATEGIES.len()).flat_map(|s| (1..=n).map(move |k| (s, k)));
-    all.map(|(s, k)| Row { before: even.clone(), ..nothing_free(n, k, s) }).collect()
+    let even = (0..1 << n).filter(|x: &u16| x.count_ones().is_multiple_of(2));
+    every_request(n, 1, &even.map(good).collect::<Vec<_>>())
 }
 
 /// A request on a relabelled cube, the map not being the identity.

@@ -54,13 +54,18 @@ pub fn free(flags: &[u8; 1024], c: Subcube, k: u16) -> bool
     }
     let low = c.low.0;
     let star = highest(c.stars);
+    let above = low + star;
+    // Where the upper half's lowest label is not free, neither half is looked at.
+    if !label_free(flags, Label(above)) {
+        return false;
+    }
     let rest = c.stars - star;
     let lower = Subcube {
         low: Label(low),
         stars: rest,
     };
     let upper = Subcube {
-        low: Label(low + star),
+        low: Label(above),
         stars: rest,
     };
     free(flags, lower, k - 1) && free(flags, upper, k - 1)

@@ -1,6 +1,6 @@
 -- `labels::nodes_of_bits` meets its contract. The loop's invariant: what the entries passed have told, with what the others add, is each bit's node.
 -- Assumes nothing.
-use Prim.Native.Nat.{_+_, _-_, _*_, _^_, _<_, _≤_}
+use Prim.Native.Nat.{_-_, _^_, _≤_}
 use mathlib.Core.Path.{_≡_, refl}
 use native.Mathlib.Nat.{pow-succ'}
 use native.Mathlib.Numerals.{add-one}

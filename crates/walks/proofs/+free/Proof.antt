@@ -3,8 +3,9 @@ use Prim.Native.Nat.{ℕ, _<_}
 use mathlib.Core.Path.{sym, _∙_}
 use mathlib.Core.Bool.{true, false}
 use native.Mathlib.Omega.{arith}
+use borrow.Author.Tests.{not-true}
 use Rattle.hypercube.specs.Bits.{width}
-use Rattle.walks.proofs.Halves.{free-node, starred, rest-ones, free-halves}
+use Rattle.walks.proofs.Halves.{free-node, starred, rest-ones, free-halves, upper-first}
 use borrow.Fn.Kinds.{In}
 use borrow.Fn.PlainCycle.{Measures, is, falls, and}
 use Rattle.walks.proofs.free.Reads as free
@@ -37,11 +38,18 @@ free-returns t c = c .label-free .ensures ∙ sym (free-node _ width _ _ (c .bef
 free-highest-requires : (t : ℕ) → free-lts.Need-highest-requires (claims t) (free-at t) free.Post
 free-highest-requires t c κs = starred width _ (λ z. c .if1 .left (sym (c .before .pre .1 .1) ∙ z))
 
+free-add-above : (t : ℕ) → free-lts.Need-add-above (claims t) (free-at t) free.Post
+free-add-above t c = omega arith
+
+free-label-free-requires-2 : (t : ℕ) → free-lts.Need-label-free-requires-2 (claims t) (free-at t) free.Post
+free-label-free-requires-2 t c κs = omega arith
+
+free-returns-2 : (t : ℕ) → free-lts.Need-returns-2 (claims t) (free-at t) free.Post
+free-returns-2 t c =
+    sym (upper-first (c .before .before .highest .ensures) (omega arith) _ _ (sym (c .before .label-free2 .ensures) ∙ not-true _ (c .if2 .taken)))
+
 free-sub-rest : (t : ℕ) → free-lts.Need-sub-rest (claims t) (free-at t) free.Post
 free-sub-rest t c = omega arith
-
-free-add-free : (t : ℕ) → free-lts.Need-add-free (claims t) (free-at t) free.Post
-free-add-free t c = omega arith
 
 free-sub-free : (t : ℕ) → free-lts.Need-sub-free (claims t) (free-at t) free.Post
 free-sub-free t c = omega arith
@@ -49,7 +57,7 @@ free-sub-free t c = omega arith
 free-free-requires : (t : ℕ) → free-lts.Need-free-requires (claims t) (free-at t) free.Post
 free-free-requires t c κs = (
   omega arith,
-  (omega arith, omega (arith, rest-ones (c .before .highest .ensures) (omega arith))),
+  (omega arith, omega (arith, rest-ones (c .before .before .before .highest .ensures) (omega arith))),
 )
 
 free-sub-free-2 : (t : ℕ) → free-lts.Need-sub-free-2 (claims t) (free-at t) free.Post
@@ -58,18 +66,18 @@ free-sub-free-2 t c = omega arith
 free-free-requires-2 : (t : ℕ) → free-lts.Need-free-requires-2 (claims t) (free-at t) free.Post
 free-free-requires-2 t c κs = (
   omega arith,
-  (omega arith, omega (arith, rest-ones (c .before .before .before .highest .ensures) (omega arith))),
+  (omega arith, omega (arith, rest-ones (c .before .before .before .before .before .highest .ensures) (omega arith))),
 )
-
-free-returns-2 : (t : ℕ) → free-lts.Need-returns-2 (claims t) (free-at t) free.Post
-free-returns-2 t c =
-    c .free2 .ensures
-    ∙ sym (free-halves (c .before .before .before .before .highest .ensures) (omega arith) _ _ true (sym (c .before .before .free .ensures) ∙ c .before .if2 .taken))
 
 free-returns-3 : (t : ℕ) → free-lts.Need-returns-3 (claims t) (free-at t) free.Post
 free-returns-3 t c =
-    c .if2 .left
-    ∙ sym (free-halves (c .before .before .before .highest .ensures) (omega arith) _ _ false (sym (c .before .free .ensures) ∙ c .if2 .left))
+    c .free2 .ensures
+    ∙ sym (free-halves (c .before .before .before .before .before .before .highest .ensures) (omega arith) _ _ true (sym (c .before .before .free .ensures) ∙ c .before .if3 .taken))
+
+free-returns-4 : (t : ℕ) → free-lts.Need-returns-4 (claims t) (free-at t) free.Post
+free-returns-4 t c =
+    c .if3 .left
+    ∙ sym (free-halves (c .before .before .before .before .before .highest .ensures) (omega arith) _ _ false (sym (c .before .free .ensures) ∙ c .if3 .left))
 
 pub +free-spec : {M : Type 1} → statement M
 +free-spec =
@@ -80,11 +88,13 @@ pub +free-spec : {M : Type 1} → statement M
     (free-label-free-requires t)
     (free-returns t)
     (free-highest-requires t)
+    (free-add-above t)
+    (free-label-free-requires-2 t)
+    (free-returns-2 t)
     (free-sub-rest t)
-    (free-add-free t)
     (free-sub-free t)
     (free-free-requires t)
     (free-sub-free-2 t)
     (free-free-requires-2 t)
-    (free-returns-2 t)
     (free-returns-3 t)
+    (free-returns-4 t)
