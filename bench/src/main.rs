@@ -9,7 +9,7 @@ use cube_proved as proved;
 use cube_reference as reference;
 use rows::Row;
 use std::path::Path;
-use time::time;
+use time::Times;
 
 /// The ratios of all rows.
 #[derive(Default)]
@@ -22,12 +22,20 @@ impl Ratios {
         self.0.push((format!("{name}, n {n}"), ratio));
     }
 
+    /// Times the rows, one after the other and all of them several times, so
+    /// that a while in which the machine is slow meets each row once.
     fn rows(&mut self, title: &str, rows: impl IntoIterator<Item = Row>) {
         println!("\n{title}");
         println!("{:32} {:>3} {:>10} {:>10} {:>9}", "call", "n", "proved", "second", "ratio");
-        for row in rows {
-            let times = time(&row, [proved::call, reference::call]);
-            self.print(&row.name, row.n, "ns", times);
+        let rows: Vec<_> = rows.into_iter().collect();
+        let mut times = vec![Times::NONE; rows.len()];
+        for _ in 0..4 {
+            for (row, times) in rows.iter().zip(&mut times) {
+                times.more(row, [proved::call, reference::call]);
+            }
+        }
+        for (row, times) in rows.iter().zip(times) {
+            self.print(&row.name, row.n, "ns", times.of_calls());
         }
     }
 

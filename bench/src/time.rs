@@ -29,26 +29,38 @@ fn round(start: &Record, mut turn: impl FnMut(&mut Record)) -> f64 {
     spent.as_nanos() as f64 / turns as f64
 }
 
-/// The times of the row's call. The programs take turns, and the least of many
-/// rounds counts; what the clock itself takes is timed alone and taken off.
-pub fn time(row: &Row, calls: [Call; 2]) -> [f64; 2] {
-    let mut start = [0; 3088];
-    reference::setup(&mut start, row.n);
-    let mut reply = [0; 12];
-    for frame in &row.before {
-        reference::call(&mut start, frame, &mut reply);
-    }
-    let mut clock = f64::MAX;
-    let mut least = [f64::MAX; 2];
-    for _ in 0..100 {
-        clock = clock.min(round(&start, |record| {
-            black_box(record);
-        }));
-        for (least, call) in least.iter_mut().zip(calls) {
-            *least = least.min(round(&start, |record| {
-                black_box(call(black_box(record), &row.call, &mut reply));
+/// The least times of a row's call so far, and of the clock that was read.
+#[derive(Clone, Copy)]
+pub struct Times {
+    clock: f64,
+    least: [f64; 2],
+}
+
+impl Times {
+    pub const NONE: Times = Times { clock: f64::MAX, least: [f64::MAX; 2] };
+
+    /// Some rounds more, in which the programs take turns.
+    pub fn more(&mut self, row: &Row, calls: [Call; 2]) {
+        let mut start = [0; 3088];
+        reference::setup(&mut start, row.n);
+        let mut reply = [0; 12];
+        for frame in &row.before {
+            reference::call(&mut start, frame, &mut reply);
+        }
+        for _ in 0..25 {
+            self.clock = self.clock.min(round(&start, |record| {
+                black_box(record);
             }));
+            for (least, call) in self.least.iter_mut().zip(calls) {
+                *least = least.min(round(&start, |record| {
+                    black_box(call(black_box(record), &row.call, &mut reply));
+                }));
+            }
         }
     }
-    least.map(|both| both - clock)
+
+    /// What the calls took, without the clock.
+    pub fn of_calls(self) -> [f64; 2] {
+        self.least.map(|both| both - self.clock)
+    }
 }
