@@ -22,8 +22,8 @@ impl Ratios {
         self.0.push((format!("{name}, n {n}"), ratio));
     }
 
-    /// Times the rows, one after the other and all of them several times, so
-    /// that a while in which the machine is slow meets each row once.
+    /// Times the rows in several passes, so that a row meets a while in which
+    /// the machine is slow in one of them only.
     fn rows(&mut self, title: &str, rows: impl IntoIterator<Item = Row>) {
         println!("\n{title}");
         println!("{:32} {:>3} {:>10} {:>10} {:>9}", "call", "n", "proved", "second", "ratio");

@@ -17,6 +17,6 @@ module _ (r : List ℕ) (v : validRecord r ≡ true) where
   none-beyond e few =
       record { entries = sized-decode r .holders; within = few; empty = λ x g l. state-valid r v .no-holders x (rw (← e) g) l }
 
-  -- the map that was loaded
+  -- its map, read, is one of directions
   pub map-directions : {ds : List ℕ} → ds ≡ decode r .map → Directions ds
   map-directions e = rw e (directions (decode r .n) (decode r .map) (state-valid r v .small) (state-valid r v .permutes))
