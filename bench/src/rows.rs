@@ -1,6 +1,6 @@
 //! The calls that are timed.
 
-use cube_proved::frame::{fault, frame, good, relabel, release, request};
+use cube_proved::frame::{fault, frame, good, relabel, release, repaired, request};
 use cube_proved::STRATEGIES;
 
 /// The calls that stand before, and the call that is timed, each time on the
@@ -29,6 +29,7 @@ pub fn calls(n: u32) -> Vec<Row> {
     let mut rows = vec![
         row("report good", n, vec![], good(last)),
         row("report fault", n, vec![], fault(0)),
+        row("report repaired", n, vec![fault(0)], repaired(0)),
         row("refused frame (4)", n, vec![], frame(0x0999, &[0, 0])),
         row("refused node (8)", n, vec![], good(1 << n)),
         row("refused release (11)", n, goods(n), release(7)),

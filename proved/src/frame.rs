@@ -13,6 +13,10 @@ pub fn fault(node: u16) -> Vec<u8> {
     frame(0x0102, &node.to_le_bytes())
 }
 
+pub fn repaired(node: u16) -> Vec<u8> {
+    frame(0x0103, &node.to_le_bytes())
+}
+
 pub fn relabel() -> Vec<u8> {
     frame(0x0203, &[])
 }
