@@ -19,22 +19,22 @@ use Rattle.frames.specs.declared.Parsed.the-variants.{Bad}
 use Rattle.frames.specs.Parse.{parsed}
 use Rattle.frames.specs.Answer.{frameOf, written}
 use Rattle.steps.proofs.Ways.{refuses}
-use Rattle.cube.specs.Called.{setupNumber, setupRecord, stepOn, callNumber, callRecord, callReply, SetUp, Called}
+use Rattle.cube.specs.Called.{setupNumber, setupRecord, stepOn, callNumber, callRecord, callReply, delivered, SetUp, Called}
 use Rattle.cube.specs.Carried.{CarriedFrame}
 
 -- ---- set-up
 
 module _ (r : List ℕ) (n : ℕ) where
-  pub setup-1 : length r ≢ 3088 → SetUp r n 1 r
+  pub setup-1 : length r ≢ 3088 → SetUp delivered r n 1 r
   unfolding setupRecord setupNumber
   setup-1 h = record { returned = rw (ne-eqb _ _ h); «record» = rw (ne-eqb _ _ h) }
 
   module _ (long : length r ≡ 3088) where
-    pub setup-7 : 10 < n → SetUp r n 7 r
+    pub setup-7 : 10 < n → SetUp delivered r n 7 r
     unfolding setupRecord setupNumber
     setup-7 h = record { returned = rw (eq-eqb _ _ long, lt-leb n 10 h); «record» = rw (eq-eqb _ _ long, lt-leb n 10 h) }
 
-    pub setup-0 : n ≤ 10 → {s : State} → s ≡ freshState n → {r′ : List ℕ} → r′ ≡ encode s → SetUp r n 0 r′
+    pub setup-0 : n ≤ 10 → {s : State} → s ≡ freshState n → {r′ : List ℕ} → r′ ≡ encode s → SetUp delivered r n 0 r′
     unfolding setupRecord setupNumber
     setup-0 h e q = record {
       returned = rw (eq-eqb _ _ long, le-leb n 10 h);
@@ -55,12 +55,12 @@ pub by-frame : (r : List ℕ) {p q : Parsed} → p ≡ q → {told : Reply} {r�
 by-frame r e h = rw e h
 
 module _ (r f p : List ℕ) where
-  pub call-1 : validRecord r ≡ false → Called r f p 1 r p
+  pub call-1 : validRecord r ≡ false → Called delivered r f p 1 r p
   unfolding callNumber callRecord callReply
   call-1 h = record { returned = rw h; «record» = rw h; reply = rw h }
 
   module _ (v : validRecord r ≡ true) where
-    pub call-2 : length p < 12 → Called r f p 2 r p
+    pub call-2 : length p < 12 → Called delivered r f p 2 r p
     unfolding callNumber callRecord callReply
     call-2 h = record {
       returned = rw (v, lt-ltb (length p) 12 h);
@@ -70,7 +70,7 @@ module _ (r f p : List ℕ) where
 
     -- told and r′ are what the step does; p′ is what is written
     pub call-told : 12 ≤ length p → {q : Parsed} → q ≡ parsed f → {told : Reply} {r′ : List ℕ} → CarriedFrame r q told r′
-        → {m : ℕ} → m ≡ numberOf told → {p′ : List ℕ} → p′ ≡ written (frameOf told) p → Called r f p m r′ p′
+        → {m : ℕ} → m ≡ numberOf told → {p′ : List ℕ} → p′ ≡ written (frameOf told) p → Called delivered r f p m r′ p′
     unfolding callNumber callRecord callReply stepOn
     call-told h {q} e {told} {r′} d {m} a {p′} b = record {
       returned = rw (v, le-ltb (length p) 12 h, ← e) (a ∙ ap numberOf (d .replied));

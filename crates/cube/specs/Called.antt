@@ -40,16 +40,6 @@ callRecord r f p = cond (eqb (callNumber r f p) 0) (encode (stepOn r f .state)) 
 unfoldable pub callReply : List ℕ → List ℕ → List ℕ → List ℕ
 callReply r f p = cond (validRecord r) (cond (ltb (length p) 12) p (written (frameOf (stepOn r f .reply)) p)) p
 
--- the contract of set-up, and of the frame call: the number, and the bytes afterwards
-pub record SetUp (r : List ℕ) (n : ℕ) (number : ℕ) (after : List ℕ) : Type 0 where
-  pub returned : number ≡ setupNumber r n
-  pub «record» : after ≡ setupRecord r n
-
-pub record Called (r f p : List ℕ) (number : ℕ) (r′ p′ : List ℕ) : Type 0 where
-  pub returned : number ≡ callNumber r f p
-  pub «record» : r′ ≡ callRecord r f p
-  pub reply : p′ ≡ callReply r f p
-
 -- set-up and a frame call, as functions of the bytes lent
 pub record Program : Type 0 where
   pub setup-number : List ℕ → ℕ → ℕ
@@ -58,7 +48,7 @@ pub record Program : Type 0 where
   pub call-record : List ℕ → List ℕ → List ℕ → List ℕ
   pub call-reply : List ℕ → List ℕ → List ℕ → List ℕ
 
--- the one delivered: what the two contracts above say
+-- the one delivered: the contracts of the two exported functions promise it, and demand 3 is proved of it
 abbrev pub delivered : Program
 delivered = record {
   setup-number = setupNumber;
@@ -67,3 +57,13 @@ delivered = record {
   call-record = callRecord;
   call-reply = callReply;
 }
+
+-- the contract of set-up, and of the frame call: the number, and the bytes afterwards, are the program's
+pub record SetUp (P : Program) (r : List ℕ) (n : ℕ) (number : ℕ) (after : List ℕ) : Type 0 where
+  pub returned : number ≡ P .setup-number r n
+  pub «record» : after ≡ P .setup-record r n
+
+pub record Called (P : Program) (r f p : List ℕ) (number : ℕ) (r′ p′ : List ℕ) : Type 0 where
+  pub returned : number ≡ P .call-number r f p
+  pub «record» : r′ ≡ P .call-record r f p
+  pub reply : p′ ≡ P .call-reply r f p

@@ -5,13 +5,13 @@ use state::Reply;
 ghost use mathlib.Core.Path.{_≡_};
 ghost use mathlib.Core.Bool.{true};
 ghost use Rattle.record.specs.Layout.{validRecord};
-ghost use Rattle.cube.specs.Called.{SetUp, Called};
+ghost use Rattle.cube.specs.Called.{delivered, SetUp, Called};
 ghost use Rattle.cube.specs.Carried.{CarriedFrame};
 
 // Document 01: "Set-up takes a buffer and n." 1 for a buffer that isn't 3088 bytes, then 7 for n above 10; a refused set-up writes nothing.
 #[no_mangle]
 pub extern "C" fn cube_setup(rec: &mut [u8], n: u32) -> u32
-    ensures { λ m. ⌜ SetUp (now (rec .entry)) n m (now (rec .exit)) ⌝ }
+    ensures { λ m. ⌜ SetUp delivered (now (rec .entry)) n m (now (rec .exit)) ⌝ }
 {
     if rec.len() != 3088 {
         return 1;
@@ -37,7 +37,7 @@ fn carry_frame(rec: &mut [u8], p: Parsed) -> Reply
 // The frame call: the number, the record's bytes and the reply's bytes are what specs/Called.antt says of the bytes that were lent.
 #[no_mangle]
 pub extern "C" fn cube_call(rec: &mut [u8], frame: &[u8], reply: &mut [u8]) -> u32
-    ensures { λ m. ⌜ Called (now (rec .entry)) (now (frame .entry)) (now (reply .entry)) m (now (rec .exit)) (now (reply .exit)) ⌝ }
+    ensures { λ m. ⌜ Called delivered (now (rec .entry)) (now (frame .entry)) (now (reply .entry)) m (now (rec .exit)) (now (reply .exit)) ⌝ }
 {
     if !record::is_valid(rec) {
         return 1;

@@ -9,7 +9,7 @@ use lib.Dec.{eqb, ltb}
 use lib.ListN.{length}
 use Rattle.hypercube.proofs.Tests.{cases}
 use Rattle.history.specs.Calls.{word}
-use Rattle.cube.specs.Called.{setupNumber, setupRecord, SetUp}
+use Rattle.cube.specs.Called.{setupNumber, setupRecord, delivered, SetUp}
 use Rattle.log.specs.Frames.{firstNumber, firstRecord, First}
 
 module _ (r f : List ℕ) where
@@ -43,7 +43,7 @@ module _ (r f : List ℕ) where
         unfolding firstNumber
         set-up h = rw (le-ltb (length f) 4 four, eq-eqb (word f 0) (length f) right, eq-eqb (word f 2) 0x0301 kind, eq-eqb (length f) 6 h)
 
-        pub first-set-up : length f ≡ 6 → (n m : ℕ) (r′ : List ℕ) → n ≡ word f 4 → SetUp r n m r′ → First r f m r′
+        pub first-set-up : length f ≡ 6 → (n m : ℕ) (r′ : List ℕ) → n ≡ word f 4 → SetUp delivered r n m r′ → First r f m r′
         unfolding firstRecord setupRecord
         first-set-up h n m r′ e s = (
           s .returned ∙ rw e (sym (set-up h)),

@@ -10,7 +10,7 @@ use lib.ListN.{length, take, drop, length-drop}
 use Rattle.history.specs.Calls.{word}
 use Rattle.tally.specs.declared.Outcome.{Outcome}
 use Rattle.tally.specs.declared.Outcome.the-variants.{Setup, Done, Granted, Refused}
-use Rattle.cube.specs.Called.{Called}
+use Rattle.cube.specs.Called.{delivered, Called}
 use Rattle.log.specs.declared.Cursor.{Cursor}
 use Rattle.log.specs.declared.Next.{Next}
 use Rattle.log.specs.declared.Next.the-variants.{Frame}
@@ -38,7 +38,7 @@ module _ (m : ℕ) (p : List ℕ) where
   reply-done v z k e = rw (eq-eqb m 0 z, ne-eqb (word p 2) 0x8001 k, e)
 
 -- a call with a reply buffer of 12 zeros
-pub later-told : (r f r′ p′ : List ℕ) (m : ℕ) (o : Outcome) → Called r f zeros m r′ p′ → o ≡ readReply m p′ → Later r f o r′
+pub later-told : (r f r′ p′ : List ℕ) (m : ℕ) (o : Outcome) → Called delivered r f zeros m r′ p′ → o ≡ readReply m p′ → Later r f o r′
 unfolding laterOutcome laterRecord
 later-told r f r′ p′ m o c e = record { outcome = rw (e, c .returned, c .reply); «record» = c .«record» }
 
