@@ -1,4 +1,4 @@
--- Each of the six breaks the part of the demands that document 01's table names, on every buffer of the record's size. Assumes nothing.
+-- Each of the six breaks the part of the demands that document 01's table names, and so demand 3, on every buffer of the record's size. Assumes nothing.
 use Prim.Native.Nat.{ℕ, _+_, _*_, _^_, _<_, _≤_}
 use mathlib.Core.Path.{_≡_, refl, sym, ap, ap₂, _∙_}
 use mathlib.Core.Logic.{inl}
@@ -41,6 +41,7 @@ use Rattle.cube.proofs.Heard.{heard-back}
 use Rattle.cube.proofs.Theorem.{demand3}
 use Rattle.weak.specs.Programs.{Requests, by, answers14, unstarted, lowest, unrecorded, firstJob, plausible, anyTried}
 use Rattle.weak.specs.Parts.{NoneFreeRight, RefusalRight, HeldDisjoint, HoldersRight, ReplyRight, Refuted}
+use Rattle.weak.proofs.Parts.{none-free, refusal, disjoint, holders, replied, breaks}
 use Rattle.weak.proofs.Frames.{good, asks, one, two, parsed-0, parsed-1, parsed-job-1, parsed-job-2, requests, told}
 use Rattle.weak.proofs.Made.{reported, number-is, reply-is, record-is, delivered-number, delivered-reply, same-record}
 
@@ -248,11 +249,11 @@ module _ (b : List ℕ) (whole : length b ≡ 3088) where
 
   pub refuted : Refuted b
   refuted = record {
-    a-free-member-exists = says-14 answers14 (λ s. refl);
-    unstarted-free = says-14 unstarted (λ s. refl);
-    unstarted-tried = tried-wrong;
-    not-disjoint = lowest-wrong;
-    record-unchanged = record-wrong;
-    over-the-list = over-list-wrong;
-    place-in-the-order = tried-of-two;
+    a-free-member-exists = breaks NoneFreeRight none-free (by answers14) 0 b (says-14 answers14 (λ s. refl));
+    unstarted-free = breaks NoneFreeRight none-free (by unstarted) 0 b (says-14 unstarted (λ s. refl));
+    unstarted-tried = breaks RefusalRight refusal (by unstarted) 0 b tried-wrong;
+    not-disjoint = breaks HeldDisjoint disjoint (by lowest) 0 b lowest-wrong;
+    record-unchanged = breaks HoldersRight holders (by unrecorded) 0 b record-wrong;
+    over-the-list = breaks HoldersRight holders (by firstJob) 1 b over-list-wrong;
+    place-in-the-order = breaks ReplyRight replied (by anyTried) 1 b tried-of-two;
   }

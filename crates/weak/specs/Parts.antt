@@ -1,4 +1,5 @@
--- The parts of the demands that the right-hand column of document 01's table names, as claims about a program, and that the six break them.
+-- The parts of the demands that the right-hand column of document 01's table names, as claims about a program; that each follows from demand 3; and that
+-- the six break them.
 use Prim.Native.Nat.{ℕ, _+_, _*_, _^_, _<_}
 use mathlib.Core.Path.{_≡_}
 use mathlib.Core.List.{List}
@@ -7,6 +8,7 @@ use Rattle.history.specs.Causes.{First, NoneMet, NoMemberFree, earlier, causes}
 use Rattle.history.specs.Verdicts.{refused, tried, verdict}
 use Rattle.history.specs.Held.{Disjoint}
 use Rattle.cube.specs.Called.{Program}
+use Rattle.cube.specs.Demand3.{Demand3}
 use Rattle.cube.specs.Run.{Exchange, Exchanges, fed, replies, recordAfter, number, reply, heldAt, historyAt}
 use Rattle.weak.specs.Programs.{by, answers14, unstarted, lowest, unrecorded, firstJob, anyTried}
 
@@ -35,12 +37,18 @@ module _ (P : Program) (n : ℕ) (b : List ℕ) where
   abbrev pub ReplyRight : Type 0
   ReplyRight = (es : Exchanges) (e : Exchange) → reply P n b es e ≡ replies (verdict n (historyAt n es) (fed e)) (e .buffer)
 
+-- a program that meets demand 3 has the part, whichever it is; P is without it, and so does not meet demand 3
+pub record Breaks (Part : Program → ℕ → List ℕ → Type 0) (P : Program) (n : ℕ) (b : List ℕ) : Type 0 where
+  pub follows : (Q : Program) (m : ℕ) (c : List ℕ) → Demand3 Q m c → Part Q m c
+  pub part : ¬ Part P n b
+  pub demand : ¬ Demand3 P n b
+
 -- on any buffer of the record's size, b
 pub record Refuted (b : List ℕ) : Type 0 where
-  pub a-free-member-exists : ¬ NoneFreeRight (by answers14) 0 b
-  pub unstarted-free : ¬ NoneFreeRight (by unstarted) 0 b
-  pub unstarted-tried : ¬ RefusalRight (by unstarted) 0 b
-  pub not-disjoint : ¬ HeldDisjoint (by lowest) 0 b
-  pub record-unchanged : ¬ HoldersRight (by unrecorded) 0 b
-  pub over-the-list : ¬ HoldersRight (by firstJob) 1 b
-  pub place-in-the-order : ¬ ReplyRight (by anyTried) 1 b
+  pub a-free-member-exists : Breaks NoneFreeRight (by answers14) 0 b
+  pub unstarted-free : Breaks NoneFreeRight (by unstarted) 0 b
+  pub unstarted-tried : Breaks RefusalRight (by unstarted) 0 b
+  pub not-disjoint : Breaks HeldDisjoint (by lowest) 0 b
+  pub record-unchanged : Breaks HoldersRight (by unrecorded) 0 b
+  pub over-the-list : Breaks HoldersRight (by firstJob) 1 b
+  pub place-in-the-order : Breaks ReplyRight (by anyTried) 1 b
