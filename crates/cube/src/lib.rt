@@ -34,7 +34,8 @@ fn carry_frame(rec: &mut [u8], p: Parsed) -> Reply
     }
 }
 
-// The frame call: the number, the record's bytes and the reply's bytes are what specs/Called.antt says of the bytes that were lent.
+// The frame call: the number, the record's bytes and the reply's bytes are what `delivered` (specs/Called.antt) says of the bytes that were lent, and
+// demand 3 is proved of it.
 #[no_mangle]
 pub extern "C" fn cube_call(rec: &mut [u8], frame: &[u8], reply: &mut [u8]) -> u32
     ensures { λ m. ⌜ Called delivered (now (rec .entry)) (now (frame .entry)) (now (reply .entry)) m (now (rec .exit)) (now (reply .exit)) ⌝ }
