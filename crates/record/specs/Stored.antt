@@ -1,5 +1,6 @@
--- What of a state's record a loop has stored.
-use Prim.Native.Nat.{ℕ}
+-- What of a state's record a loop has stored, and what it left.
+use Prim.Native.Nat.{ℕ, _≤_}
+use mathlib.Core.Path.{_≡_}
 use mathlib.Core.List.{List}
 use lib.ListN.{getD}
 use Rattle.hypercube.specs.Filled.{Filled}
@@ -7,5 +8,10 @@ use Rattle.state.specs.declared.State.{State}
 use Rattle.record.specs.Layout.{encode}
 
 -- l is as long as a record, and its first i bytes are those of the state's
-abbrev pub Stored : State → ℕ → List ℕ → Type 0
-Stored s i l = Filled (λ k. getD (encode s) k 0) 0 3088 i l
+abbrev pub Begun : State → ℕ → List ℕ → Type 0
+Begun s i l = Filled (λ k. getD (encode s) k 0) 0 3088 i l
+
+-- the same of l, and the bytes from i on are those of r
+pub record Stored (s : State) (r : List ℕ) (i : ℕ) (l : List ℕ) : Type 0 where
+  pub begun : Begun s i l
+  pub rest : (k : ℕ) → i ≤ k → getD l k 0 ≡ getD r k 0

@@ -8,7 +8,7 @@ ghost use Rattle.hypercube.specs.Lists.{from};
 ghost use Rattle.history.specs.Calls.{word};
 ghost use Rattle.state.specs.Valid.{nodesRight, valid};
 ghost use Rattle.record.specs.Layout.{encode, decode, headRight, validRecord};
-ghost use Rattle.record.specs.Stored.{Stored};
+ghost use Rattle.record.specs.Stored.{Begun, Stored};
 ghost use Rattle.record.specs.Highest.{highestOf, allZero};
 
 fn wide(b: u8) -> u16
@@ -187,7 +187,7 @@ pub fn is_valid(bytes: &[u8]) -> bool
 // The first 16 bytes: length, kind, n, the map and the zero byte.
 fn put_head(s: State, bytes: &mut [u8])
     requires { ⌜ length (now bytes) ≡ 3088 ⌝ }
-    ensures { λ _. ⌜ Stored s 16 (now (bytes .exit)) ⌝ }
+    ensures { λ _. ⌜ Stored s (now (bytes .entry)) 16 (now (bytes .exit)) ⌝ }
 {
     bytes[0] = 16;
     bytes[1] = 12;
@@ -203,8 +203,8 @@ fn put_head(s: State, bytes: &mut [u8])
 }
 
 fn put_holders(s: State, bytes: &mut [u8])
-    requires { ⌜ Stored s 16 (now bytes) ⌝ }
-    ensures { λ _. ⌜ Stored s 2064 (now (bytes .exit)) ⌝ }
+    requires { ⌜ Begun s 16 (now bytes) ⌝ }
+    ensures { λ _. ⌜ Stored s (now (bytes .entry)) 2064 (now (bytes .exit)) ⌝ }
 {
     let mut x = 0;
     while x < 1024 {
@@ -216,8 +216,8 @@ fn put_holders(s: State, bytes: &mut [u8])
 }
 
 fn put_conditions(s: State, bytes: &mut [u8])
-    requires { ⌜ Stored s 2064 (now bytes) ⌝ }
-    ensures { λ _. ⌜ Stored s 3088 (now (bytes .exit)) ⌝ }
+    requires { ⌜ Begun s 2064 (now bytes) ⌝ }
+    ensures { λ _. ⌜ now (bytes .exit) ≡ encode s ⌝ }
 {
     let mut x = 0;
     while x < 1024 {

@@ -1,4 +1,4 @@
--- Each of the six breaks the part of the demands that document 01's table names, and so demand 3, on every buffer of the record's size. Assumes nothing.
+-- Each of the six breaks the part that document 01's table names, and so demand 3, on every buffer of the record's size. Assumes nothing.
 use Prim.Native.Nat.{ℕ, _+_, _*_, _^_, _<_, _≤_}
 use mathlib.Core.Path.{_≡_, refl, sym, ap, ap₂, _∙_}
 use mathlib.Core.Logic.{inl}

@@ -1,5 +1,5 @@
--- The parts of the demands that the right-hand column of document 01's table names, as claims about a program; that each follows from demand 3; and that
--- the six break them.
+-- The parts of the demands that the right-hand column of document 01's table names, as claims about a program; that each follows from demand 3, and
+-- that the six break them.
 use Prim.Native.Nat.{ℕ, _+_, _*_, _^_, _<_}
 use mathlib.Core.Path.{_≡_}
 use mathlib.Core.List.{List}

@@ -3,16 +3,16 @@ use Prim.Native.Nat.{_+_, _-_, _≤_}
 use mathlib.Core.Path.{refl, sym, _∙_}
 use native.Mathlib.Omega.{arith}
 use borrow.Author.Needs.{needs}
-use lib.ListN.{length-set}
-use Rattle.hypercube.proofs.Filled.{filled-none, filled-next, filled-to}
+use lib.ListN.{set, length-set}
 use Rattle.record.specs.Layout.{encode}
 use Rattle.record.specs.Stored.{Stored}
 use Rattle.record.proofs.Round.{Sized, encode-map, encode-zero}
+use Rattle.record.proofs.Stored.{stored-from, stored-none, stored-next, stored-then, stored-to}
 use Rattle.record.proofs.put_head.Statement.{statement}
 use Rattle.record.proofs.put_head.Tie as tie
 
 abbrev Inv-loop : tie.InvT-loop
-Inv-loop bytes₀ s i₀ bytes i = (i ≤ 10) × Stored s (5 + i) bytes
+Inv-loop bytes₀ s i₀ bytes i = (i ≤ 10) × Stored s bytes₀ (5 + i) bytes
 
 abbrev μ-loop : tie.MeasureT-loop
 μ-loop bytes₀ s i₀ bytes i = 10 - i
@@ -35,13 +35,18 @@ slice-write-bytes-4 c = simp length-set (omega arith)
 slice-write-bytes-5 : tie.Need-slice-write-bytes-5 Inv-loop μ-loop
 slice-write-bytes-5 c = simp length-set (omega arith)
 
-loop-holds : tie.Need-loop-holds Inv-loop μ-loop
+-- before the loop
+five : (c : tie.Start Inv-loop μ-loop) → let r = c .args .bytes .now in
+    Stored (c .args .t1) r 5 (set (set (set (set (set r 0 16) 1 12) 2 1) 3 0) 4 (c .args .t1 .n))
 unfolding encode
-loop-holds c =
-    let h0 : Stored (c .args .t1) 0 (c .args .bytes .now) = filled-none (c .pre) in
-    let h2 = filled-next 12 (filled-next 16 h0 (omega arith) refl) (omega arith) refl in
-    let h4 = filled-next 0 (filled-next 1 h2 (omega arith) refl) (omega arith) refl in
-    (omega arith, filled-next _ h4 (omega arith) refl)
+five c =
+    let h0 : Stored (c .args .t1) (c .args .bytes .now) 0 (c .args .bytes .now) = stored-none (c .pre) in
+    let h2 = stored-next 12 (stored-next 16 h0 (omega arith) refl) (omega arith) refl in
+    let h4 = stored-next 0 (stored-next 1 h2 (omega arith) refl) (omega arith) refl in
+    stored-next _ h4 (omega arith) refl
+
+loop-holds : tie.Need-loop-holds Inv-loop μ-loop
+loop-holds c = (omega arith, stored-from (five c .begun))
 
 element-copy-out-bytes : tie.Need-element-copy-out-bytes Inv-loop μ-loop
 element-copy-out-bytes c = omega arith
@@ -50,7 +55,7 @@ add-bytes : tie.Need-add-bytes Inv-loop μ-loop
 add-bytes c = omega arith
 
 slice-write-bytes-6 : tie.Need-slice-write-bytes-6 Inv-loop μ-loop
-slice-write-bytes-6 c = omega (arith, c .before .before .loop .inv .1 .long)
+slice-write-bytes-6 c = omega (arith, c .before .before .loop .inv .1 .begun .long)
 
 add-i : tie.Need-add-i Inv-loop μ-loop
 add-i c = omega arith
@@ -61,16 +66,18 @@ loop-less c = omega arith
 loop-again : tie.Need-loop-again Inv-loop μ-loop
 loop-again c =
     let v = sym (encode-map _ (sized (c .before .before .before)) (c .before .before .loop .i) (omega arith)) in
-    (omega arith, filled-to _ (filled-next _ (c .before .before .loop .inv .1) (omega arith) v) (omega arith))
+    (omega arith, stored-to _ (stored-next _ (c .before .before .loop .inv .1) (omega arith) v) (omega arith))
 
 slice-write-bytes-7 : tie.Need-slice-write-bytes-7 Inv-loop μ-loop
-slice-write-bytes-7 c = omega (arith, c .before .loop .inv .1 .long)
+slice-write-bytes-7 c = omega (arith, c .before .loop .inv .1 .begun .long)
 
 same-length : tie.Need-same-length Inv-loop μ-loop
-same-length c = simp length-set (c .before .loop .inv .1 .long ∙ sym (c .before .before .pre))
+same-length c = simp length-set (c .before .loop .inv .1 .begun .long ∙ sym (c .before .before .pre))
 
 returns : tie.Need-returns Inv-loop μ-loop
-returns c = filled-next 0 (filled-to 15 (c .before .loop .inv .1) (omega arith)) (omega arith) (sym (encode-zero _ (sized (c .before .before))))
+returns c =
+    let h = stored-then (five (c .before .before)) (stored-to 15 (c .before .loop .inv .1) (omega arith)) (omega arith) in
+    stored-next 0 h (omega arith) (sym (encode-zero _ (sized (c .before .before))))
 
 pub put-head-spec : {M : Type 1} → statement M
 put-head-spec =

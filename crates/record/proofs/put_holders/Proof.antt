@@ -8,12 +8,12 @@ use mir.Val.{Fits}
 use lib.ListN.{getD, length-set}
 use Rattle.record.specs.Stored.{Stored}
 use Rattle.record.proofs.Round.{Sized, encode-low, encode-high}
-use Rattle.hypercube.proofs.Filled.{filled-next, filled-to}
+use Rattle.record.proofs.Stored.{stored-from, stored-next, stored-to}
 use Rattle.record.proofs.put_holders.Statement.{statement}
 use Rattle.record.proofs.put_holders.Tie as tie
 
 abbrev Inv-loop : tie.InvT-loop
-Inv-loop bytes₀ s x₀ bytes x = (x ≤ 1024) × Stored s (16 + 2 * x) bytes
+Inv-loop bytes₀ s x₀ bytes x = (x ≤ 1024) × Stored s bytes₀ (16 + 2 * x) bytes
 
 abbrev μ-loop : tie.MeasureT-loop
 μ-loop bytes₀ s x₀ bytes x = 1024 - x
@@ -25,7 +25,7 @@ fits : (c : tie.After-h Inv-loop μ-loop) → Fits w16 (getD (c .before .before 
 fits c = search needs
 
 loop-holds : tie.Need-loop-holds Inv-loop μ-loop
-loop-holds c = (omega arith, c .pre)
+loop-holds c = (omega arith, stored-from (c .pre))
 
 mul-h : tie.Need-mul-h Inv-loop μ-loop
 mul-h c = omega arith
@@ -58,7 +58,7 @@ add-bytes-3 : tie.Need-add-bytes-3 Inv-loop μ-loop
 add-bytes-3 c = omega arith
 
 slice-write-bytes-2 : tie.Need-slice-write-bytes-2 Inv-loop μ-loop
-slice-write-bytes-2 c = simp length-set (omega (arith, c .before .before .loop .inv .1 .long))
+slice-write-bytes-2 c = simp length-set (omega (arith, c .before .before .loop .inv .1 .begun .long))
 
 add-x : tie.Need-add-x Inv-loop μ-loop
 add-x c = omega arith
@@ -70,14 +70,14 @@ loop-again : tie.Need-loop-again Inv-loop μ-loop
 loop-again c =
     let z = sized (c .before .before .before) in
     let x = c .before .before .loop .x in
-    let low = filled-next _ (c .before .before .loop .inv .1) (omega arith) (sym (encode-low _ z x (omega arith))) in
-    (omega arith, filled-to _ (filled-next _ low (omega arith) (sym (encode-high _ z x (omega arith)))) (omega arith))
+    let low = stored-next _ (c .before .before .loop .inv .1) (omega arith) (sym (encode-low _ z x (omega arith))) in
+    (omega arith, stored-to _ (stored-next _ low (omega arith) (sym (encode-high _ z x (omega arith)))) (omega arith))
 
 same-length : tie.Need-same-length Inv-loop μ-loop
-same-length c = c .before .loop .inv .1 .long ∙ sym (c .before .before .pre .long)
+same-length c = c .before .loop .inv .1 .begun .long ∙ sym (c .before .before .pre .long)
 
 returns : tie.Need-returns Inv-loop μ-loop
-returns c = filled-to 2064 (c .before .loop .inv .1) (omega arith)
+returns c = stored-to 2064 (c .before .loop .inv .1) (omega arith)
 
 pub put-holders-spec : {M : Type 1} → statement M
 put-holders-spec =

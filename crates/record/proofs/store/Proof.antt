@@ -1,6 +1,5 @@
 -- `record::store` meets its contract. Assumes nothing.
 use borrow.Author.Needs.{needs}
-use Rattle.record.proofs.Stored.{stored-all}
 use Rattle.record.proofs.store.Statement.{statement}
 use Rattle.record.proofs.store.Tie as tie
 
@@ -8,18 +7,17 @@ put-head-requires : tie.Need-put-head-requires
 put-head-requires c κs = search needs
 
 put-holders-requires : tie.Need-put-holders-requires
-put-holders-requires c κs = search needs
+put-holders-requires c κs = c .before .before .before .put-head .ensures .begun
 
 put-conditions-requires : tie.Need-put-conditions-requires
-put-conditions-requires c κs = search needs
+put-conditions-requires c κs = c .before .before .before .put-holders .ensures .begun
 
 same-length : tie.Need-same-length
 same-length c = search needs
 
 returns : tie.Need-returns
 returns c =
-    stored-all (record { directions = search needs; holders = search needs; conditions = search needs })
-    (c .before .before .put-conditions .ensures)
+    c .before .before .put-conditions .ensures
 
 pub store-spec : {M : Type 1} → statement M
 store-spec =
