@@ -17,6 +17,7 @@ pub mod log;
 mod noise;
 pub mod record;
 pub mod rng;
+pub mod session;
 pub mod tally;
 
 pub use call::call;

@@ -10,3 +10,4 @@ mod replies;
 mod sessions;
 mod sources;
 mod support;
+mod value_table;

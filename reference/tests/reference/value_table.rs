@@ -1,0 +1,88 @@
+//! What `value-table` prints reaches every number and kind that a call on
+//! values can meet, and its sum is the one that is written down.
+
+use std::collections::BTreeSet;
+
+use cube_reference::frame::{Call, Reply};
+use cube_reference::session::{call_of, damaged, fresh, make, next, sum, CALLS, DAMAGES, EACH};
+
+/// The calls of each session with what they gave.
+fn sessions() -> Vec<(Call, Reply)> {
+    let mut all = Vec::new();
+    for n in 0..=10 {
+        let mut record = fresh(n);
+        (0..1 << n).for_each(|node| assert_eq!(make(&mut record, Call::Good { node }).number, 0));
+        let mut drawn = n + 1;
+        for place in 0..CALLS {
+            drawn = next(drawn);
+            let call = call_of(n, place, drawn);
+            all.push((call, make(&mut record, call).reply));
+        }
+    }
+    all
+}
+
+#[test]
+fn the_sessions_meet_every_number_from_6_on() {
+    let met: BTreeSet<u16> = sessions()
+        .iter()
+        .filter_map(|(_, reply)| match reply {
+            Reply::Refused { number, .. } => Some(*number),
+            _ => None,
+        })
+        .collect();
+    assert_eq!(met, (6..=14).collect());
+}
+
+#[test]
+fn the_sessions_have_every_kind_accepted_and_every_strategy_granted() {
+    let (mut done, mut granted) = (BTreeSet::new(), BTreeSet::new());
+    for (call, reply) in sessions() {
+        match (call, reply) {
+            (Call::Request { strategy, .. }, Reply::Granted { .. }) => granted.insert(strategy),
+            (Call::Good { .. }, Reply::Done { value: 0 }) => done.insert("good"),
+            (Call::Fault { .. }, Reply::Done { value: 0 }) => done.insert("fault"),
+            (Call::Fault { .. }, Reply::Done { .. }) => done.insert("fault of a held node"),
+            (Call::Repaired { .. }, Reply::Done { .. }) => done.insert("repaired"),
+            (Call::Relabel, Reply::Done { value: 0 }) => done.insert("relabel, D empty"),
+            (Call::Relabel, Reply::Done { .. }) => done.insert("relabel"),
+            (Call::Release { .. }, Reply::Done { .. }) => done.insert("release"),
+            (_, Reply::Refused { .. }) => false,
+            other => panic!("no call gives {other:?}"),
+        };
+    }
+    assert_eq!(granted, (0..=3).collect());
+    assert_eq!(done.len(), 7, "{done:?}");
+}
+
+#[test]
+fn each_damage_but_the_first_is_refused_1() {
+    let mut first = damaged(0);
+    assert!(EACH.iter().all(|call| make(&mut first, *call).number != 1));
+    for damage in 1..DAMAGES {
+        let mut record = damaged(damage);
+        for call in EACH {
+            let given = make(&mut record, call);
+            assert_eq!((given.number, given.words), (1, [61166; 6]), "damage {damage}");
+            assert_eq!(given.reply, Reply::Refused { number: 1, tried: 0 });
+        }
+        assert!(record == damaged(damage));
+    }
+}
+
+/// The sum of a record with one byte 1, so many places before the last.
+fn sum_of_one(before_last: usize) -> u32 {
+    let mut record = [0; 3088];
+    record[3087 - before_last] = 1;
+    sum(&record)
+}
+
+#[test]
+fn the_sum_is_as_written_down() {
+    assert_eq!(sum_of_one(0), 1);
+    assert_eq!(sum_of_one(1), 31);
+    assert_eq!(sum_of_one(4), 923_521);
+    assert_eq!(sum_of_one(5), 193_037); // 923521 - 14 * 65521 is 6227, and 31 * 6227 this
+    assert_ne!(sum_of_one(3087 - 4), 0);
+    assert_eq!(sum_of_one(3087 - 3), 0, "the bytes before n are not in it");
+}
