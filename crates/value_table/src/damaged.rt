@@ -1,0 +1,59 @@
+// One call of each kind on a state of dimension 3 with one thing changed, and on its record. The first change leaves it right.
+use super::pair;
+use super::print;
+use hypercube::Node;
+use state::Call;
+use state::State;
+
+fn changed(change: u32) -> State {
+    let mut s = State::fresh(3);
+    match change {
+        0 => s.holders[7] = 65535,
+        1 => s.n = 11,
+        2 => s.conditions[0] = 3,
+        3 => s.holders[8] = 5,
+        4 => s.conditions[1023] = 1,
+        5 => s.map[0] = 2,
+        6 => s.map[2] = 4,
+        _ => s.map[9] = 9,
+    }
+    s
+}
+
+fn reports(before: State, rec: &mut [u8]) -> State {
+    let s = pair::called(0, before, rec, Call::Good(Node(0)));
+    let s = pair::called(1, s, rec, Call::Fault(Node(0)));
+    pair::called(2, s, rec, Call::Repaired(Node(0)))
+}
+
+fn others(before: State, rec: &mut [u8]) {
+    let s = pair::called(3, before, rec, Call::Relabel);
+    let request = Call::Request {
+        job: 1,
+        k: 0,
+        strategy: 0,
+    };
+    let s = pair::called(4, s, rec, request);
+    pair::called(5, s, rec, Call::Release(65535));
+}
+
+fn state(change: u32) {
+    let s = changed(change);
+    let mut rec = [0; 3088];
+    record::store(s, &mut rec);
+    print::text(b"damaged");
+    print::next(change);
+    pair::show_sums(s, &rec);
+    others(reports(s, &mut rec), &mut rec);
+}
+
+pub(crate) fn states() {
+    state(0);
+    state(1);
+    state(2);
+    state(3);
+    state(4);
+    state(5);
+    state(6);
+    state(7);
+}

@@ -1,0 +1,58 @@
+// The calls of a session, made of numbers drawn one after another.
+use hypercube::Node;
+use state::Call;
+ghost use Prim.Native.Nat.{_≤_};
+
+// The number after x; a session of dimension n starts at n + 1.
+pub(crate) fn after(x: u32) -> u32 {
+    (x % 65521 * 17364 + 1) % 65521
+}
+
+// Eighths of the cube, and 2^n: those of 1024, halved 10 - n times.
+fn node_of(n: u16, x: u32) -> Node
+    requires { ⌜ n ≤ 10 ⌝ }
+{
+    Node((x % 9 * 128) as u16 >> (10 - n))
+}
+
+// One of the jobs 0 to 3 and 65535.
+fn job_of(x: u32) -> u16 {
+    let j = (x / 5 % 5) as u16;
+    if j == 4 { 65535 } else { j }
+}
+
+// k up to n + 1, strategies up to 4.
+fn request_of(n: u16, x: u32) -> Call
+    requires { ⌜ n ≤ 10 ⌝ }
+{
+    let k = (x / 11 % (n as u32 + 2)) as u8;
+    let strategy = (x / 13 % 5) as u8;
+    Call::Request {
+        job: job_of(x),
+        k,
+        strategy,
+    }
+}
+
+// Two faults, a relabel, then what the number gives.
+fn kind_of(place: u32, x: u32) -> u32 {
+    match place {
+        0 | 1 => 1,
+        2 => 6,
+        _ => x / 17 % 16,
+    }
+}
+
+// The call at a place, from 0, of a session of dimension n.
+pub(crate) fn call_of(n: u16, place: u32, x: u32) -> Call
+    requires { ⌜ n ≤ 10 ⌝ }
+{
+    match kind_of(place, x) {
+        0 => Call::Good(node_of(n, x)),
+        1..=3 => Call::Fault(node_of(n, x)),
+        4..=5 => Call::Repaired(node_of(n, x)),
+        6..=7 => Call::Relabel,
+        8..=12 => request_of(n, x),
+        _ => Call::Release(job_of(x)),
+    }
+}
