@@ -10,11 +10,11 @@ fn is_free(pattern: u32, label: u32) -> bool {
     match pattern {
         0 => true,
         1 => false,
-        2 => label % 3 != 0,
+        2 => !label.is_multiple_of(3),
         3 => (label * 7 + label / 5) % 11 < 8,
         4 => label % 16 >= 5,
-        5 => label / 2 % 2 == 0,
-        _ => (label / 4 + label) % 2 == 0,
+        5 => (label / 2).is_multiple_of(2),
+        _ => (label / 4 + label).is_multiple_of(2),
     }
 }
 
