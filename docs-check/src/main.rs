@@ -247,7 +247,9 @@ impl Check {
 
     fn path(&mut self, at: &At, path: &str) {
         let edit = path.split_once('/').map(|(of, label)| format!("{of}/must-fail/{label}.edit"));
-        if self.place(at, path).is_some() || self.in_some_crate(path) {
+        if path.starts_with("target/") {
+            self.word(at, path); // what is built may be there or not
+        } else if self.place(at, path).is_some() || self.in_some_crate(path) {
             self.count("files and folders");
         } else if edit.is_some_and(|edit| self.sources.place(&edit).is_some()) {
             self.count("must-fail edits");
