@@ -1,0 +1,173 @@
+//! The numbers of refusals, 'tried' with 14, and set-up.
+
+use cube_proved as proved;
+
+use crate::cube::{Cube, BEFORE, SIZE};
+use crate::formula;
+use crate::section::{after, byte_strings, bytes, decimals, ensure, hex, number, same, Outcome};
+use crate::section::{Guide, Row, Section};
+
+const SMALLEST: [&str; 4] = ["number", "record", "frame", "reply buffer afterwards"];
+
+/// The table has the numbers from 1 on in order, and each is met by a row of the
+/// smallest calls, whose reply is as the table says.
+pub fn in_order(guide: &Guide, section: &Section) -> Outcome {
+    let rows = section.rows(&["number", "cause", "met by", "reply"])?;
+    let smallest = guide.section("A smallest call that meets each")?.rows(&SMALLEST)?;
+    for (place, (line, cells)) in rows.iter().enumerate() {
+        ensure(number(&cells[0])? == place + 1, || format!("line {line}: not {}", place + 1))?;
+        let met: Vec<&Row> = smallest.iter().filter(|(_, row)| row[0] == cells[0]).collect();
+        ensure(!met.is_empty(), || format!("line {line}: no smallest call"))?;
+        let writes = |row: &Row| !byte_strings(&row.1[3]).is_empty();
+        let said = cells[3].starts_with(&format!("refused {}", cells[0]));
+        ensure(met.iter().all(|row| writes(row) == said), || format!("line {line}: the reply"))?;
+    }
+    ensure(rows.len() == 14, || format!("there are {} numbers", rows.len()))?;
+    Ok(rows.len())
+}
+
+/// The record that the text calls so: the frames in its part of the sentence,
+/// on a fresh cube.
+fn named(text: &str, name: &str) -> Result<Cube, String> {
+    let n = after(text, "n = ")?;
+    let quoted = format!("\"{name}\"");
+    let part = text.split(';').find(|part| part.to_lowercase().contains(&quoted));
+    let part = part.ok_or(format!("it isn't said what {name} is"))?;
+    let mut cube = Cube::fresh(n);
+    for frame in byte_strings(part) {
+        let (number, _) = cube.call(&frame, 12);
+        ensure(number == 0, || format!("{name}: {frame:02x?} returned {number}"))?;
+    }
+    Ok(cube)
+}
+
+/// Each call returns its number, leaves its record, and leaves the reply buffer
+/// as the row says.
+pub fn smallest(_: &Guide, section: &Section) -> Outcome {
+    let buffer = section.line_with("where the reply buffer is not said")?;
+    let said = (after(buffer, "it has ")?, byte_strings(buffer));
+    ensure(said == (12, vec![vec![BEFORE]]), || format!("buffers are {said:02x?}"))?;
+    let rows = section.rows(&SMALLEST)?;
+    for row in &rows {
+        smallest_call(section, row).map_err(|what| format!("line {}: {what}", row.0))?;
+    }
+    let long = section.line_with("A frame of more than")?;
+    let (length, said) = (after(long, "more than ")?, after(long, "meets ")?);
+    for length in [length + 1, length + 7, 2 * (length + 1)] {
+        let (number, _) = Cube::fresh(0).call(&vec![0; length], 12);
+        ensure(number == said, || format!("a frame of {length} bytes returned {number}"))?;
+    }
+    Ok(rows.len() + 3)
+}
+
+fn smallest_call(section: &Section, (_, cells): &Row) -> Result<(), String> {
+    let before = match cells[1].as_str() {
+        "-" => Cube { record: Vec::new() },
+        name => named(section.line_with("\"Fresh\" is")?, name)?,
+    };
+    let said = byte_strings(&cells[3]).concat();
+    let kept = cells[3].ends_with("as it was") || cells[3].ends_with("as they were");
+    ensure(kept == said.is_empty(), || format!("'{}' isn't understood", cells[3]))?;
+    let length = decimals(&cells[3]).first().copied().filter(|_| kept).unwrap_or(12);
+    let mut cube = before.clone();
+    let (got, reply) = cube.call(&bytes(&cells[2])?, length);
+    ensure(got == number(&cells[0])?, || format!("returned {got}"))?;
+    same("record", &cube.record, &before.record)?;
+    same("reply", &reply, &if kept { vec![BEFORE; length] } else { said })
+}
+
+/// Every n, k and strategy on a cube without a good node: refused 14, with the
+/// count that the table's formula gives.
+pub fn tried(_: &Guide, section: &Section) -> Outcome {
+    let rows = section.rows(&["strategy", "k = 0", "k from 1 to n - 1", "k = n, from 1"])?;
+    let (mut tried, mut largest) = (0, Vec::new());
+    for (line, cells) in &rows {
+        let strategy = number(cells[0].split(' ').next().unwrap_or_default())?;
+        ensure(cells[0].ends_with(proved::STRATEGIES[strategy]), || format!("line {line}: name"))?;
+        for n in 0..=10u16 {
+            for k in 0..=n {
+                let formula = &cells[if k == 0 { 1 } else { 2 + usize::from(k == n) }];
+                let said = formula::value(formula, n.into(), k.into())?;
+                let frame = proved::frame::request(1, k as u8, strategy as u8);
+                let (number, reply) = Cube::fresh(n.into()).call(&frame, 12);
+                let got = i64::from(u16::from_le_bytes([reply[6], reply[7]]));
+                ensure((number, got) == (14, said), || {
+                    format!("line {line}, n {n}, k {k}: refused {number}, tried {got}, not {said}")
+                })?;
+                largest.push((got, strategy, n, k));
+                tried += 1;
+            }
+        }
+    }
+    ensure(rows.len() == 4, || format!("there are {} strategies", rows.len()))?;
+    let line = section.line_with("The largest is")?;
+    let most = largest.iter().map(|(got, ..)| *got).max().unwrap_or_default();
+    let (n, k) = (after(line, "n = ")?, after(line, "k = ")?);
+    let meant = |&&(got, strategy, at, dim): &&(i64, usize, u16, u16)| {
+        got == most
+            && line.contains(proved::STRATEGIES[strategy])
+            && (at.into(), dim.into()) == (n, k)
+    };
+    let all = largest.iter().filter(|(got, ..)| *got == most).count();
+    let named = largest.iter().filter(meant).count();
+    ensure(after(line, "largest is ")? as i64 == most && named == all, || {
+        format!("the largest is {most}, met {all} times")
+    })?;
+    Ok(tried)
+}
+
+/// What set-up returns and leaves: the head that is shown and zeros, or the
+/// buffer as it was.
+pub fn set_up(_: &Guide, section: &Section) -> Outcome {
+    let line = section.line_with("comes before")?;
+    let (wrong, n) = (after(line, "a buffer of ")?, after(line, "with n = ")?);
+    let largest = after(line, "above ")?;
+    let mut cases = vec![(wrong, n, after(line, "gets ")?)];
+    let above = line.split_once("there;").and_then(|(_, rest)| rest.split_once("are above"));
+    let above = decimals(above.ok_or("no other n")?.0);
+    ensure(!above.is_empty(), || "no other n".to_string())?;
+    for (row, cells) in section.rows(&["returned", "cause", "buffer afterwards"])? {
+        let returned = number(&cells[0])?;
+        match cells[1].as_str() {
+            "" => cases.extend((0..=largest).map(|n| (SIZE, n, returned))),
+            "record_len is not 3088" => {
+                cases.extend([wrong, 0, SIZE + 1].map(|size| (size, largest, returned)));
+            }
+            "n above 10" => {
+                cases.extend(above.iter().chain([&n]).map(|n| (SIZE, *n, returned)));
+            }
+            cause => return Err(format!("line {row}: '{cause}' isn't understood")),
+        }
+        let kept = cells[2] == "as it was";
+        ensure(kept == (returned != 0), || format!("line {row}: the buffer afterwards"))?;
+    }
+    let shown = after(line, "The head for n = ")?;
+    let [[head]] = section.blocks()[..] else { return Err("there isn't one head".to_string()) };
+    let mut fresh = hex(head);
+    ensure(fresh.len() == 16, || format!("the head has {} bytes", fresh.len()))?;
+    fresh.resize(SIZE, 0);
+    for (size, n, said) in &cases {
+        set_up_case(*size, *n, *said, &fresh, shown)?;
+    }
+    Ok(cases.len())
+}
+
+fn set_up_case(
+    size: usize,
+    n: usize,
+    said: usize,
+    fresh: &[u8],
+    shown: usize,
+) -> Result<(), String> {
+    let mut buffer = vec![BEFORE; size];
+    let got = proved::setup(&mut buffer, n as u32) as usize;
+    ensure(got == said, || format!("{size} bytes, n = {n}: returned {got}, not {said}"))?;
+    if said != 0 {
+        same(&format!("{size} bytes, n = {n}"), &buffer, &vec![BEFORE; size])
+    } else if n == shown {
+        same(&format!("n = {n}"), &buffer, fresh)
+    } else {
+        let other = [&fresh[..4], &[n as u8], &fresh[5..]].concat();
+        same(&format!("n = {n}"), &buffer, &other)
+    }
+}
