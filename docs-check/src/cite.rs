@@ -58,7 +58,8 @@ fn plain(text: &str, after_span: bool, sources: &Sources, tokens: &mut Vec<Token
         let core = word.trim_start_matches('(');
         let core = core.trim_end_matches([' ', ',', ';', ':', ')', '.', '"', '\'']);
         let first = core.split('/').next().unwrap_or_default();
-        let folder = ["specs", "proofs", "src", "must-fail"].contains(&first);
+        let folder = |part| ["specs", "proofs", "src", "must-fail"].contains(&part);
+        let folder = core.split('/').any(folder);
         let known = folder || sources.crates.contains(first) || sources.root.join(first).is_dir();
         let path = is_path(core) && core.contains('/') && known;
         if path || (after_span && kept == " in " && sources.crates.contains(core)) {

@@ -116,7 +116,8 @@ impl Check {
         for piece in &page.pieces {
             let at = At { page, line: piece.line, of: self.crate_of(piece) };
             match &piece.kind {
-                Kind::Heading | Kind::Code(_) => {}
+                Kind::Code(_) => {}
+                Kind::Heading => self.text(&at, &piece.heading),
                 Kind::Text(text) => self.text(&at, text),
                 Kind::Row { header, cells } => {
                     cells.iter().for_each(|cell| self.text(&at, cell));
