@@ -76,11 +76,14 @@ fn smallest_call(section: &Section, (_, cells): &Row) -> Result<(), String> {
     same("reply", &reply, &if kept { vec![BEFORE; length] } else { said })
 }
 
+/// What was tried, of a strategy, n and k.
+type Count = (i64, usize, u16, u16);
+
 /// Every n, k and strategy on a cube without a good node: refused 14, with the
 /// count that the table's formula gives.
 pub fn tried(_: &Guide, section: &Section) -> Outcome {
     let rows = section.rows(&["strategy", "k = 0", "k from 1 to n - 1", "k = n, from 1"])?;
-    let (mut tried, mut largest) = (0, Vec::new());
+    let mut counts: Vec<Count> = Vec::new();
     for (line, cells) in &rows {
         let strategy = number(cells[0].split(' ').next().unwrap_or_default())?;
         ensure(cells[0].ends_with(proved::STRATEGIES[strategy]), || format!("line {line}: name"))?;
@@ -94,26 +97,27 @@ pub fn tried(_: &Guide, section: &Section) -> Outcome {
                 ensure((number, got) == (14, said), || {
                     format!("line {line}, n {n}, k {k}: refused {number}, tried {got}, not {said}")
                 })?;
-                largest.push((got, strategy, n, k));
-                tried += 1;
+                counts.push((got, strategy, n, k));
             }
         }
     }
     ensure(rows.len() == 4, || format!("there are {} strategies", rows.len()))?;
+    largest_count(section, &counts)?;
+    Ok(counts.len())
+}
+
+/// The sentence about the largest count: how large, and for which cases alone.
+fn largest_count(section: &Section, counts: &[Count]) -> Result<(), String> {
     let line = section.line_with("The largest is")?;
-    let most = largest.iter().map(|(got, ..)| *got).max().unwrap_or_default();
+    let most = counts.iter().map(|(got, ..)| *got).max().unwrap_or_default();
     let (n, k) = (after(line, "n = ")?, after(line, "k = ")?);
-    let meant = |&&(got, strategy, at, dim): &&(i64, usize, u16, u16)| {
-        got == most
-            && line.contains(proved::STRATEGIES[strategy])
-            && (at.into(), dim.into()) == (n, k)
+    let named = |&(_, strategy, at, dim): &Count| {
+        line.contains(proved::STRATEGIES[strategy]) && (at.into(), dim.into()) == (n, k)
     };
-    let all = largest.iter().filter(|(got, ..)| *got == most).count();
-    let named = largest.iter().filter(meant).count();
-    ensure(after(line, "largest is ")? as i64 == most && named == all, || {
-        format!("the largest is {most}, met {all} times")
-    })?;
-    Ok(tried)
+    let met: Vec<&Count> = counts.iter().filter(|(got, ..)| *got == most).collect();
+    ensure(after(line, "largest is ")? as i64 == most && met.iter().all(|c| named(c)), || {
+        format!("the largest is {most}, met {} times", met.len())
+    })
 }
 
 /// What set-up returns and leaves: the head that is shown and zeros, or the
