@@ -2,18 +2,26 @@
 
 use cube_proved::frame::{fault, frame, good, relabel, release, repaired, request};
 use cube_proved::STRATEGIES;
+use cube_reference as reference;
 
-/// The calls that stand before, and the call that is timed, each time on the
-/// record as those left it.
+pub type Record = [u8; 3088];
+
+/// A call that is timed, each time on the same record.
 pub struct Row {
     pub name: String,
     pub n: u32,
-    pub before: Vec<Vec<u8>>,
+    pub start: Record,
     pub call: Vec<u8>,
 }
 
+/// A row on the record that these calls leave.
 fn row(name: &str, n: u32, before: Vec<Vec<u8>>, call: Vec<u8>) -> Row {
-    Row { name: name.to_string(), n, before, call }
+    let mut start = [0; 3088];
+    reference::setup(&mut start, n);
+    for frame in before {
+        reference::call(&mut start, &frame, &mut [0; 12]);
+    }
+    Row { name: name.to_string(), n, start, call }
 }
 
 /// All nodes good.
@@ -48,24 +56,6 @@ pub fn calls(n: u32) -> Vec<Row> {
 fn nothing_free(n: u32, k: u32, strategy: usize) -> Row {
     let name = format!("none free, {}, k {k}", STRATEGIES[strategy]);
     row(&name, n, vec![], request(7, k as u8, strategy as u8))
-}
-
-/// Such requests of every strategy and of every k from the least up.
-fn every_request(n: u32, least: u32, before: &[Vec<u8>]) -> Vec<Row> {
-    let all = (0..STRATEGIES.len()).flat_map(|s| (least..=n).map(move |k| (s, k)));
-    all.map(|(s, k)| Row { before: before.to_vec(), ..nothing_free(n, k, s) }).collect()
-}
-
-/// Requests where no node is free.
-pub fn none(n: u32) -> Vec<Row> {
-    every_request(n, 0, &[])
-}
-
-/// Requests where half the nodes are free, no two of them neighbours: a walk
-/// meets them all, and no subcube of k from 1 up is free.
-pub fn scattered(n: u32) -> Vec<Row> {
-    let even = (0..1 << n).filter(|x: &u16| x.count_ones().is_multiple_of(2));
-    every_request(n, 1, &even.map(good).collect::<Vec<_>>())
 }
 
 /// A request on a relabelled cube, the map not being the identity.

@@ -1,24 +1,21 @@
-//! Times of one call by two programs, in nanoseconds.
+//! Times of calls by several programs, in nanoseconds.
 
-use crate::rows::Row;
-use cube_reference as reference;
+use crate::rows::{Record, Row};
 use std::hint::black_box;
 use std::time::{Duration, Instant};
 
 pub type Call = fn(&mut [u8], &[u8], &mut [u8]) -> u32;
 
-type Record = [u8; 3088];
-
 /// The records of a batch: few enough to stay in the processor's first cache.
 const BATCH: usize = 8;
 
-/// Nanoseconds a turn, over at least 200 microseconds. A batch of records is
+/// Nanoseconds a turn, over at least 100 microseconds. A batch of records is
 /// made ready before it is timed, so that no turn waits for its record's copy.
 fn round(start: &Record, mut turn: impl FnMut(&mut Record)) -> f64 {
     let mut records = [*start; BATCH];
     let mut spent = Duration::ZERO;
     let mut turns = 0;
-    while spent < Duration::from_micros(200) {
+    while spent < Duration::from_micros(100) {
         records.fill(*start);
         black_box(&mut records);
         let began = Instant::now();
@@ -29,30 +26,28 @@ fn round(start: &Record, mut turn: impl FnMut(&mut Record)) -> f64 {
     spent.as_nanos() as f64 / turns as f64
 }
 
-/// The least times of a row's call so far, and of the clock that was read.
-#[derive(Clone, Copy)]
+/// The least times of a row's call so far, by each program, and of the clock
+/// that was read.
+#[derive(Clone)]
 pub struct Times {
     clock: f64,
-    least: [f64; 2],
+    least: Vec<f64>,
 }
 
 impl Times {
-    pub const NONE: Times = Times { clock: f64::MAX, least: [f64::MAX; 2] };
+    fn none(programs: usize) -> Times {
+        Times { clock: f64::MAX, least: vec![f64::MAX; programs] }
+    }
 
     /// Some rounds more, in which the programs take turns.
-    pub fn more(&mut self, row: &Row, calls: [Call; 2]) {
-        let mut start = [0; 3088];
-        reference::setup(&mut start, row.n);
+    fn more(&mut self, row: &Row, programs: &[Call]) {
         let mut reply = [0; 12];
-        for frame in &row.before {
-            reference::call(&mut start, frame, &mut reply);
-        }
-        for _ in 0..25 {
-            self.clock = self.clock.min(round(&start, |record| {
+        for _ in 0..12 {
+            self.clock = self.clock.min(round(&row.start, |record| {
                 black_box(record);
             }));
-            for (least, call) in self.least.iter_mut().zip(calls) {
-                *least = least.min(round(&start, |record| {
+            for (least, call) in self.least.iter_mut().zip(programs) {
+                *least = least.min(round(&row.start, |record| {
                     black_box(call(black_box(record), &row.call, &mut reply));
                 }));
             }
@@ -60,7 +55,22 @@ impl Times {
     }
 
     /// What the calls took, without the clock.
-    pub fn of_calls(self) -> [f64; 2] {
-        self.least.map(|both| both - self.clock)
+    pub fn of_calls(&self) -> Vec<f64> {
+        self.least.iter().map(|both| both - self.clock).collect()
     }
+}
+
+/// The times of rows, each by its programs. They are taken in several passes,
+/// so that a row meets a while in which the machine is slow in one of them
+/// only; rows that are in doubt get further passes.
+pub fn times(rows: &[Row], programs: &[Vec<Call>], in_doubt: fn(&[f64]) -> bool) -> Vec<Vec<f64>> {
+    let mut all: Vec<_> = programs.iter().map(|programs| Times::none(programs.len())).collect();
+    for pass in 0..12 {
+        for ((row, programs), times) in rows.iter().zip(programs).zip(&mut all) {
+            if pass < 4 || in_doubt(&times.of_calls()) {
+                times.more(row, programs);
+            }
+        }
+    }
+    all.iter().map(Times::of_calls).collect()
 }

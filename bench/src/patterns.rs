@@ -1,0 +1,160 @@
+//! Requests of every strategy and k under patterns of free nodes. A pattern
+//! that nobody timed is where a slow case hides, so they vary what is free:
+//! none, nearly all, half; members that come early, late or never.
+
+use crate::rows::{Record, Row};
+use cube_proved::frame::request;
+use cube_proved::STRATEGIES;
+use cube_reference::family::{family, Subcube};
+use cube_reference::record::{set_condition, set_holder, set_map, FAULTY, GOOD};
+use cube_reference::rng::Rng;
+use cube_reference::{node, relabel, Map, IDENTITY};
+
+/// A request, with the last member of its family.
+struct Request {
+    n: u32,
+    k: u32,
+    last: Subcube,
+}
+
+/// What a node that isn't free is.
+#[derive(Clone, Copy)]
+enum Other {
+    Silent,
+    Faulty,
+    Held,
+}
+
+/// A name, which labels are free for a request, and what the others are.
+#[derive(Clone, Copy)]
+pub struct Pattern {
+    pub name: &'static str,
+    free: fn(&Request, u32) -> bool,
+    other: Other,
+}
+
+const fn pattern(name: &'static str, other: Other, free: fn(&Request, u32) -> bool) -> Pattern {
+    Pattern { name, free, other }
+}
+
+impl Request {
+    fn new(n: u32, k: u32, strategy: usize) -> Request {
+        let last = *family(strategy as u8, n, k).last().expect("no family is empty");
+        Request { n, k, last }
+    }
+
+    /// Whether a label is in the upper half.
+    fn upper(&self, x: u32) -> bool {
+        x >= 1 << self.n >> 1
+    }
+
+    /// Whether it is in the family's last member.
+    fn in_last(&self, x: u32) -> bool {
+        x & !self.last.stars == self.last.low
+    }
+}
+
+/// The same labels always, about so many of a hundred.
+fn chosen(x: u32, percent: u32) -> bool {
+    Rng::new(u64::from(x) << 32 | 22).below(100) < percent
+}
+
+use Other::{Faulty, Held, Silent};
+
+/// Patterns in which at most a few labels are not free.
+const SILENT: [Pattern; 4] = [
+    pattern("all free", Silent, |_, _| true),
+    pattern("first node silent", Silent, |_, x| x != 0),
+    pattern("middle node silent", Silent, |r, x| x != 1 << r.n >> 1),
+    pattern("last node silent", Silent, |r, x| x + 1 != 1 << r.n),
+];
+
+/// By the one-bits: no subcube of k has all of its labels among those with
+/// fewer than k, nor among those with more than n - k; with one more, some do.
+const WEIGHTS: [Pattern; 5] = [
+    pattern("bad from k one-bits up", Faulty, |r, x| x.count_ones() < r.k),
+    pattern("bad above k one-bits", Faulty, |r, x| x.count_ones() <= r.k),
+    pattern("bad up to n - k one-bits", Faulty, |r, x| x.count_ones() > r.n - r.k),
+    pattern("bad below n - k one-bits", Faulty, |r, x| x.count_ones() >= r.n - r.k),
+    pattern("half free, no neighbours", Silent, |_, x| x.count_ones() % 2 == 0),
+];
+
+/// Patterns in which the free members come late, or only the first are.
+const LATE: [Pattern; 6] = [
+    pattern("none free", Silent, |_, _| false),
+    pattern("first half bad", Faulty, |r, x| r.upper(x)),
+    pattern("second half bad", Faulty, |r, x| !r.upper(x)),
+    pattern("only the last label free", Silent, |r, x| x + 1 == 1 << r.n),
+    pattern("only the last member free", Silent, |r, x| r.in_last(x)),
+    pattern("bad from k one-bits up but the last member", Faulty, |r, x| {
+        x.count_ones() < r.k || r.in_last(x)
+    }),
+];
+
+/// Even and uneven mixtures.
+const MIXED: [Pattern; 8] = [
+    pattern("every 8th bad, from 0", Silent, |_, x| x % 8 != 0),
+    pattern("every 8th bad, from 7", Silent, |_, x| x % 8 != 7),
+    pattern("2 % bad", Silent, |_, x| !chosen(x, 2)),
+    pattern("10 % bad", Silent, |_, x| !chosen(x, 10)),
+    pattern("30 % bad", Faulty, |_, x| !chosen(x, 30)),
+    pattern("50 % bad", Faulty, |_, x| !chosen(x, 50)),
+    pattern("half held, by blocks", Held, |r, x| x >> (r.n / 2) & 1 == 1),
+    pattern("half held, by pairs", Held, |_, x| chosen(x / 2, 50)),
+];
+
+/// A record with the labels of a pattern free.
+fn record(request: &Request, pattern: &Pattern, map: &Map) -> Record {
+    let mut record = [0; 3088];
+    cube_reference::setup(&mut record, request.n);
+    set_map(&mut record, map);
+    for x in 0..1 << request.n {
+        let node = node(map, x);
+        let free = (pattern.free)(request, x);
+        match pattern.other {
+            Silent if !free => {}
+            Faulty if !free => set_condition(&mut record, node, FAULTY),
+            _ => set_condition(&mut record, node, GOOD),
+        }
+        if matches!(pattern.other, Held) && !free {
+            set_holder(&mut record, node, 100 + (x / 2) as u16);
+        }
+    }
+    record
+}
+
+/// Requests of every strategy and k under a pattern; the name says what they
+/// get by the second program.
+fn rows(n: u32, pattern: &Pattern, map: &Map) -> Vec<Row> {
+    let all = (0..STRATEGIES.len()).flat_map(|s| (0..=n).map(move |k| (s, k)));
+    let row = |(strategy, k)| {
+        let start = record(&Request::new(n, k, strategy), pattern, map);
+        let call = request(7, k as u8, strategy as u8);
+        let outcome = match cube_reference::call(&mut { start }, &call, &mut [0; 12]) {
+            0 => "granted",
+            14 => "refused",
+            number => panic!("{}: {number}", pattern.name),
+        };
+        let relabelled = if *map == IDENTITY { "" } else { ", relabelled" };
+        let request = format!("{}, k {k}, {outcome}", STRATEGIES[strategy]);
+        Row { name: format!("{}{relabelled}, {request}", pattern.name), n, start, call }
+    };
+    all.map(row).collect()
+}
+
+/// The rows of a pattern at one n, with their title.
+pub type Part = (String, Vec<Row>);
+
+/// Each pattern at one n, on a cube as it was set up.
+pub fn plain(n: u32) -> impl Iterator<Item = Part> {
+    let all = [&SILENT[..], &WEIGHTS, &LATE, &MIXED].concat();
+    all.into_iter().map(move |p| (format!("n {n}, {}", p.name), rows(n, &p, &IDENTITY)))
+}
+
+/// The same with every other direction mapped to the lower half.
+pub fn relabelled(n: u32) -> impl Iterator<Item = Part> {
+    let (map, _) = relabel(n, [0, 0x2aa % (1 << n)]);
+    let all = [SILENT[3], WEIGHTS[0], WEIGHTS[3], LATE[4], MIXED[3], MIXED[7]];
+    let title = move |p: &Pattern| format!("n {n}, {}, relabelled", p.name);
+    all.into_iter().map(move |p| (title(&p), rows(n, &p, &map)))
+}

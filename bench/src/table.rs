@@ -1,0 +1,99 @@
+//! What is printed: rows, a line for each part, and what all rows show.
+
+/// A row's name and what its call took by the library, by the second program
+/// and, where it answers, by the limit.
+pub struct Line {
+    pub name: String,
+    pub unit: &'static str,
+    pub refused: bool,
+    pub took: Vec<f64>,
+}
+
+/// A program that the library is compared with: its place in `took`, and the
+/// ratio that no row should be above.
+struct Anchor {
+    program: usize,
+    name: &'static str,
+    goal: f64,
+}
+
+const SECOND: Anchor = Anchor { program: 1, name: "second program", goal: 1.0 };
+const LIMIT: Anchor = Anchor { program: 2, name: "limit", goal: 10.0 };
+
+impl Line {
+    fn ratio(&self, anchor: &Anchor) -> Option<f64> {
+        Some(self.took[0] / self.took.get(anchor.program)?)
+    }
+}
+
+/// Every row.
+pub fn rows(title: &str, lines: &[Line]) {
+    println!("\n{title}");
+    println!("{:74} {:>11} {:>16} {:>16}", "call", "library", "second / ratio", "limit / ratio");
+    for line in lines {
+        print!("{:74} {:>8.0} {}", line.name, line.took[0], line.unit);
+        for took in &line.took[1..] {
+            print!(" {took:>9.0} {:>6.2}", line.took[0] / took);
+        }
+        println!();
+    }
+}
+
+/// Ratios to an anchor, ascending.
+fn ratios<'a>(anchor: &Anchor, lines: impl IntoIterator<Item = &'a Line>) -> Vec<f64> {
+    let mut ratios: Vec<_> = lines.into_iter().filter_map(|line| line.ratio(anchor)).collect();
+    ratios.sort_by(f64::total_cmp);
+    ratios
+}
+
+fn above(anchor: &Anchor, ratios: &[f64]) -> usize {
+    ratios.iter().filter(|ratio| **ratio > anchor.goal).count()
+}
+
+/// The heads of `part`'s columns.
+pub fn parts() {
+    println!("\n{:55} {:^29} {:^29}", "", "library / second", "library / limit");
+    let columns = format!("{:>5} {:>6} {:>8} {:>6}", "rows", "median", "highest", "above");
+    println!("{:55}  {columns}  {columns}", "pattern");
+}
+
+/// One line for many rows.
+pub fn part(title: &str, lines: &[Line]) {
+    print!("{title:55}");
+    for anchor in [SECOND, LIMIT] {
+        let ratios = ratios(&anchor, lines);
+        if let Some(highest) = ratios.last() {
+            let (len, above) = (ratios.len(), above(&anchor, &ratios));
+            print!("  {len:>5} {:>6.2} {highest:>8.2} {above:>6}", ratios[len / 2]);
+        }
+    }
+    println!();
+}
+
+/// How the ratios of some rows lie, and the highest of those above the goal.
+fn anchored(what: &str, anchor: &Anchor, lines: &[&Line]) {
+    let ratios = ratios(anchor, lines.iter().copied());
+    let Some(highest) = ratios.last() else { return };
+    let (len, above) = (ratios.len(), above(anchor, &ratios));
+    let mean = ratios.iter().sum::<f64>() / len as f64;
+    println!(
+        "\nlibrary / {}, {what}: {len} rows, {above} above {:.2}; highest {highest:.2}, mean {mean:.2}, median {:.2}",
+        anchor.name, anchor.goal, ratios[len / 2]
+    );
+    let mut worst: Vec<_> = lines.iter().filter_map(|l| Some((l.ratio(anchor)?, l))).collect();
+    worst.sort_by(|a, b| b.0.total_cmp(&a.0));
+    for (ratio, line) in worst.iter().filter(|(ratio, _)| *ratio > anchor.goal).take(SHOWN) {
+        println!("{ratio:>8.2}  {}", line.name);
+    }
+}
+
+/// How many rows above a goal are named.
+const SHOWN: usize = 20;
+
+/// What all rows show.
+pub fn summary(lines: &[Line]) {
+    let (refused, others): (Vec<_>, Vec<_>) = lines.iter().partition(|line| line.refused);
+    anchored("all", &SECOND, &lines.iter().collect::<Vec<_>>());
+    anchored("refusals", &LIMIT, &refused);
+    anchored("grants", &LIMIT, &others);
+}
