@@ -27,8 +27,8 @@ enum Other {
 
 /// A name, which labels are free for a request, and what the others are.
 #[derive(Clone, Copy)]
-pub struct Pattern {
-    pub name: &'static str,
+struct Pattern {
+    name: &'static str,
     free: fn(&Request, u32) -> bool,
     other: Other,
 }
@@ -142,19 +142,28 @@ fn rows(n: u32, pattern: &Pattern, map: &Map) -> Vec<Row> {
     all.map(row).collect()
 }
 
-/// The rows of a pattern at one n, with their title.
-pub type Part = (String, Vec<Row>);
-
-/// Each pattern at one n, on a cube as it was set up.
-pub fn plain(n: u32) -> impl Iterator<Item = Part> {
-    let all = [&SILENT[..], &WEIGHTS, &LATE, &MIXED].concat();
-    all.into_iter().map(move |p| (format!("n {n}, {}", p.name), rows(n, &p, &IDENTITY)))
+/// The rows of patterns at one n under one map, each with a title.
+fn titled(n: u32, patterns: Vec<Pattern>, map: Map) -> impl Iterator<Item = (String, Vec<Row>)> {
+    patterns.into_iter().map(move |p| {
+        let relabelled = if map == IDENTITY { "" } else { ", relabelled" };
+        (format!("n {n}, {}{relabelled}", p.name), rows(n, &p, &map))
+    })
 }
 
-/// The same with every other direction mapped to the lower half.
-pub fn relabelled(n: u32) -> impl Iterator<Item = Part> {
+/// Every pattern, on a cube as it was set up.
+pub fn plain(n: u32) -> impl Iterator<Item = (String, Vec<Row>)> {
+    titled(n, [&SILENT[..], &WEIGHTS, &LATE, &MIXED].concat(), IDENTITY)
+}
+
+/// Some of each sort, with every other direction mapped to the lower ones.
+pub fn relabelled(n: u32) -> impl Iterator<Item = (String, Vec<Row>)> {
     let (map, _) = relabel(n, [0, 0x2aa % (1 << n)]);
-    let all = [SILENT[3], WEIGHTS[0], WEIGHTS[3], LATE[4], MIXED[3], MIXED[7]];
-    let title = move |p: &Pattern| format!("n {n}, {}, relabelled", p.name);
-    all.into_iter().map(move |p| (title(&p), rows(n, &p, &map)))
+    let some = [SILENT[3], WEIGHTS[0], WEIGHTS[3], LATE[4], MIXED[3], MIXED[7]];
+    titled(n, some.to_vec(), map)
+}
+
+/// Some of each sort, on a smaller cube.
+pub fn small(n: u32) -> impl Iterator<Item = (String, Vec<Row>)> {
+    let some = [&SILENT[..], &WEIGHTS, &LATE[4..], &MIXED[1..4], &MIXED[7..]].concat();
+    titled(n, some, IDENTITY)
 }

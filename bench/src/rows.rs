@@ -3,6 +3,10 @@
 use cube_proved::frame::{fault, frame, good, relabel, release, repaired, request};
 use cube_proved::STRATEGIES;
 use cube_reference as reference;
+use std::fmt;
+
+/// The frame call of a program.
+pub type Call = fn(&mut [u8], &[u8], &mut [u8]) -> u32;
 
 pub type Record = [u8; 3088];
 
@@ -12,6 +16,20 @@ pub struct Row {
     pub n: u32,
     pub start: Record,
     pub call: Vec<u8>,
+}
+
+impl Row {
+    /// The number and the reply that a program gives.
+    pub fn answer(&self, program: Call) -> (u32, [u8; 12]) {
+        let (mut record, mut reply) = (self.start, [0; 12]);
+        (program(&mut record, &self.call, &mut reply), reply)
+    }
+}
+
+impl fmt::Display for Row {
+    fn fmt(&self, out: &mut fmt::Formatter) -> fmt::Result {
+        out.pad(&format!("{}, n {}", self.name, self.n))
+    }
 }
 
 /// A row on the record that these calls leave.

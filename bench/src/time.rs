@@ -1,10 +1,8 @@
 //! Times of calls by several programs, in nanoseconds.
 
-use crate::rows::{Record, Row};
+use crate::rows::{Call, Record, Row};
 use std::hint::black_box;
 use std::time::{Duration, Instant};
-
-pub type Call = fn(&mut [u8], &[u8], &mut [u8]) -> u32;
 
 /// The records of a batch: few enough to stay in the processor's first cache.
 const BATCH: usize = 8;
@@ -28,8 +26,7 @@ fn round(start: &Record, mut turn: impl FnMut(&mut Record)) -> f64 {
 
 /// The least times of a row's call so far, by each program, and of the clock
 /// that was read.
-#[derive(Clone)]
-pub struct Times {
+struct Times {
     clock: f64,
     least: Vec<f64>,
 }
@@ -55,18 +52,30 @@ impl Times {
     }
 
     /// What the calls took, without the clock.
-    pub fn of_calls(&self) -> Vec<f64> {
+    fn of_calls(&self) -> Vec<f64> {
         self.least.iter().map(|both| both - self.clock).collect()
     }
+}
+
+/// The programs that time a row; all of them have to give the same answer.
+fn agreed(row: &Row, programs: Vec<Call>) -> Vec<Call> {
+    let answers: Vec<_> = programs.iter().map(|program| row.answer(*program)).collect();
+    assert!(answers.iter().all(|answer| *answer == answers[0]), "{row}: {answers:?}");
+    programs
 }
 
 /// The times of rows, each by its programs. They are taken in several passes,
 /// so that a row meets a while in which the machine is slow in one of them
 /// only; rows that are in doubt get further passes.
-pub fn times(rows: &[Row], programs: &[Vec<Call>], in_doubt: fn(&[f64]) -> bool) -> Vec<Vec<f64>> {
+pub fn times(
+    rows: &[Row],
+    programs: impl Fn(&Row) -> Vec<Call>,
+    in_doubt: impl Fn(&[f64]) -> bool,
+) -> Vec<Vec<f64>> {
+    let programs: Vec<_> = rows.iter().map(|row| agreed(row, programs(row))).collect();
     let mut all: Vec<_> = programs.iter().map(|programs| Times::none(programs.len())).collect();
     for pass in 0..12 {
-        for ((row, programs), times) in rows.iter().zip(programs).zip(&mut all) {
+        for ((row, programs), times) in rows.iter().zip(&programs).zip(&mut all) {
             if pass < 4 || in_doubt(&times.of_calls()) {
                 times.more(row, programs);
             }

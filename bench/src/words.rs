@@ -26,12 +26,7 @@ pub struct Labels {
 impl Labels {
     /// The labels that are free by a record: good and unheld.
     pub fn free(record: &Record) -> Labels {
-        let mut flags = [0; 1024];
-        let holders = record[16..2064].chunks_exact(2);
-        for ((flag, condition), holder) in flags.iter_mut().zip(&record[2064..]).zip(holders) {
-            *flag = u8::from(*condition == record::GOOD && holder[0] | holder[1] == 0);
-        }
-        let words = from_fn(|w| packed(&flags[64 * w..][..64]));
+        let words = from_fn(|w| free_nodes(&record[16 + 128 * w..], &record[2064 + 64 * w..]));
         let mut labels = Labels { words, digits: record::dimension(record) };
         labels.move_digits(record::map(record));
         labels
@@ -142,12 +137,17 @@ impl Labels {
     }
 }
 
-/// Sixty-four flags, each 0 or 1, as bits. Eight bytes at a time: the product
-/// has byte i's flag as bit i of its highest byte.
-fn packed(flags: &[u8]) -> u64 {
-    let bytes = flags.chunks_exact(8).rev().map(|eight| {
-        let eight = u64::from_le_bytes(from_fn(|i| eight[i]));
-        eight.wrapping_mul(0x0102_0408_1020_4080) >> 56
-    });
-    bytes.fold(0, |word, byte| word << 8 | byte)
+/// The free ones of 64 nodes, by their holders and conditions: of 0, 1 and 2
+/// only 'good' is odd. Eight nodes at a time, a byte each: the product has the
+/// lowest bit of byte i as bit i of its highest byte.
+fn free_nodes(holders: &[u8], conditions: &[u8]) -> u64 {
+    let mut unheld = [0; 64];
+    for (unheld, holder) in unheld.iter_mut().zip(holders.chunks_exact(2)) {
+        *unheld = u8::from(u16::from_le_bytes([holder[0], holder[1]]) == 0);
+    }
+    let eight = |bytes: &[u8], i: usize| u64::from_le_bytes(from_fn(|j| bytes[8 * i + j]));
+    (0..8).fold(0, |word, i| {
+        let free = eight(&unheld, i) & eight(conditions, i);
+        word | free.wrapping_mul(0x0102_0408_1020_4080) >> 56 << (8 * i)
+    })
 }

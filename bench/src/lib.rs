@@ -1,0 +1,9 @@
+//! Rows of calls, and their times by several programs.
+
+pub mod limit;
+pub mod options;
+pub mod parts;
+pub mod patterns;
+pub mod rows;
+pub mod time;
+mod words;

@@ -1,0 +1,29 @@
+//! All rows, in parts.
+
+use crate::options::Options;
+use crate::patterns;
+use crate::rows::{self, Row};
+
+/// Rows with a title, and whether each of them is of interest by itself.
+pub struct Part {
+    pub title: String,
+    pub rows: Vec<Row>,
+    pub each: bool,
+}
+
+/// The rows of each sort of call.
+fn calls() -> Vec<Part> {
+    let part = |title: &str, rows| Part { title: title.to_string(), rows, each: true };
+    vec![
+        part("each call", [4, 7, 10].into_iter().flat_map(rows::calls).collect()),
+        part("on a relabelled cube", [4, 7, 10].into_iter().map(rows::relabelled).collect()),
+        part("how cost grows with n", (0..=10).flat_map(rows::grown).collect()),
+    ]
+}
+
+/// The parts that are asked for.
+pub fn all(options: &Options) -> Vec<Part> {
+    let patterns = patterns::plain(10).chain(patterns::relabelled(10)).chain(patterns::small(7));
+    let patterns = patterns.map(|(title, rows)| Part { title, rows, each: false });
+    calls().into_iter().chain(patterns).filter(|part| options.wants(&part.title)).collect()
+}
