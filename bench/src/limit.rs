@@ -10,6 +10,7 @@
 use crate::rows::Record;
 use crate::words::Labels;
 use cube_reference::{node, record};
+use std::ops::Range;
 
 /// A walk's answer, on labels: the member with its place, or the count.
 type Answer = Result<Found, u32>;
@@ -20,16 +21,16 @@ struct Found {
     tried: u32,
 }
 
-/// Answers a request, as `cube_call` does, but for what is said above.
+/// Answers a request at n = 10 as `cube_call` does, but for what is said above.
 pub fn call(record: &mut [u8], frame: &[u8], reply: &mut [u8]) -> u32 {
     let record: &Record = (&*record).try_into().expect("a record");
-    let (n, k) = (record::dimension(record), u32::from(frame[6]));
+    let (k, strategy) = (u32::from(frame[6]), frame[7]);
     let free = Labels::free(record);
-    let answer = match frame[7] {
-        _ if k == 0 => buddy(free, n, 0),
-        0 => buddy(free, n, k),
-        2 => tree(free, n, k),
-        _ => extended(free, n, k),
+    let answer = match strategy {
+        _ if k == 0 => buddy(&free, 0),
+        0 => buddy(&free, k),
+        2 => tree(&free, k),
+        _ => extended(&free, k),
     };
     match answer {
         Ok(Found { low, stars, tried }) => {
@@ -56,61 +57,70 @@ fn ones(count: u32) -> u32 {
     (1 << count) - 1
 }
 
-fn buddy(free: Labels, n: u32, k: u32) -> Answer {
-    let (blocks, unit) = free.blocks(k);
-    let alpha = blocks.first().ok_or(1u32 << (n - k))? >> unit;
+fn buddy(free: &Labels<16>, k: u32) -> Answer {
+    let alpha = free.first_block(k).ok_or(1u32 << (10 - k))?;
     Ok(Found { low: alpha << k, stars: ones(k), tried: alpha + 1 })
 }
 
-/// The least α, and for it the least p from `first` up, of the members whose
-/// other stars are the lowest `low` bits of these labels.
-fn least(labels: Labels, low: u32, first: u32, digits: u32) -> Option<(u32, u32)> {
-    let (blocks, unit) = labels.blocks(low);
-    let x = blocks.pairs(unit + first..unit + digits).first()?;
-    let is_star = |p: &u32| x >> (unit + p) & 1 == 0 && blocks.has(x | 1 << (unit + p));
-    let p = (first..digits).find(is_star)?;
-    Some((x >> unit, p))
-}
-
-fn tree(free: Labels, n: u32, k: u32) -> Answer {
-    let (low, digits) = (k - 1, n - k + 1);
-    let count = digits << (n - k);
-    let (alpha, p) = least(free, low, 0, digits).ok_or(count)?;
-    let tried = zeros_before(alpha, 0..digits) + zeros(alpha, 0..p) + 1;
+fn tree(free: &Labels<16>, k: u32) -> Answer {
+    let (low, places) = (k - 1, 0..11 - k);
+    let (alpha, p) = free.first_pair(low, places.clone()).ok_or((11 - k) << (10 - k))?;
+    let tried = zeros_before(alpha, places) + zeros(alpha, 0..p) + 1;
     Ok(Found { low: alpha << low, stars: ones(low) | 1 << (low + p), tried })
 }
 
-/// After the tree's members those of each d, on the labels folded across their
-/// top d bits; of the first that each d has, that of the least α and d.
-fn extended(free: Labels, n: u32, k: u32) -> Answer {
-    let tried = match tree(free, n, k) {
+fn extended(free: &Labels<16>, k: u32) -> Answer {
+    let tried = match tree(free, k) {
         Err(count) => count,
         found => return found,
     };
-    let digits = n - k + 1;
-    let mut best = None;
-    let mut labels = free;
-    for d in 1..k {
-        labels.fold_top();
-        let found = least(labels, k - 1 - d, 1, digits).map(|(alpha, p)| (alpha, d, p));
-        best = best.into_iter().chain(found).min();
-    }
-    let (alpha, d, p) = best.ok_or((k * (n - k) + 1) << (n - k))?;
-    let (low, places) = (k - 1 - d, 1..digits);
+    let (alpha, d, p) = first_further(free, k).ok_or((k * (10 - k) + 1) << (10 - k))?;
+    let (low, places) = (k - 1 - d, 1..11 - k);
     let rows = (k - 1) * zeros_before(alpha, places.clone()) + (d - 1) * zeros(alpha, places);
     Ok(Found {
         low: alpha << low,
-        stars: ones(d) << (n - d) | ones(low) | 1 << (low + p),
+        stars: ones(d) << (10 - d) | ones(low) | 1 << (low + p),
         tried: tried + rows + zeros(alpha, 1..p) + 1,
     })
 }
 
+/// The least α, d and p of the members beyond the tree's. Those of one d are
+/// pairs among the labels that are free together with all that differ from
+/// them in the top d bits.
+fn first_further(free: &Labels<16>, k: u32) -> Option<(u32, u32, u32)> {
+    if k == 10 {
+        return None;
+    }
+    let eight: Labels<8> = free.halves();
+    let four: Labels<4> = eight.halves();
+    let two: Labels<2> = four.halves();
+    let mut one: Labels<1> = two.halves();
+    let mut least = None;
+    for d in 1..k {
+        let (low, places) = (k - 1 - d, 1..11 - k);
+        let found = match d {
+            1 => eight.first_pair(low, places),
+            2 => four.first_pair(low, places),
+            3 => two.first_pair(low, places),
+            4 => one.first_pair(low, places),
+            _ => {
+                one.fold_word(10 - d);
+                one.first_pair(low, places)
+            }
+        };
+        if let Some((alpha, p)) = found {
+            least = least.or(Some((alpha, d, p))).min(Some((alpha, d, p)));
+        }
+    }
+    least
+}
+
 /// How many digits at these places are 0.
-fn zeros(alpha: u32, places: std::ops::Range<u32>) -> u32 {
+fn zeros(alpha: u32, places: Range<u32>) -> u32 {
     places.filter(|p| alpha >> p & 1 == 0).count() as u32
 }
 
 /// The same of all numbers below α together.
-fn zeros_before(alpha: u32, places: std::ops::Range<u32>) -> u32 {
+fn zeros_before(alpha: u32, places: Range<u32>) -> u32 {
     places.map(|p| (alpha >> (p + 1) << p) + (alpha & ones(p + 1)).min(1 << p)).sum()
 }

@@ -15,25 +15,17 @@ const ZERO_DIGIT: [u64; 6] = [
     0x0000_0000_ffff_ffff,
 ];
 
-/// Labels of so many digits: label x is bit x % 64 of word x / 64. Words
-/// beyond the labels are not looked at; bits beyond them are 0.
+/// Flags of 64 L labels: that of label x is bit x % 64 of word x / 64.
 #[derive(Clone, Copy)]
-pub struct Labels {
-    words: [u64; 16],
-    digits: u32,
-}
+pub struct Labels<const L: usize>([u64; L]);
 
-impl Labels {
-    /// The labels that are free by a record: good and unheld.
-    pub fn free(record: &Record) -> Labels {
+impl Labels<16> {
+    /// The labels that are free by a record of n = 10: good and unheld.
+    pub fn free(record: &Record) -> Labels<16> {
         let words = from_fn(|w| free_nodes(&record[16 + 128 * w..], &record[2064 + 64 * w..]));
-        let mut labels = Labels { words, digits: record::dimension(record) };
+        let mut labels = Labels(words);
         labels.move_digits(record::map(record));
         labels
-    }
-
-    fn len(&self) -> usize {
-        1 << self.digits.saturating_sub(6)
     }
 
     /// From nodes to labels: digit i goes to the place that the map gives it.
@@ -49,7 +41,7 @@ impl Labels {
 
     /// Exchanges two digits, i below j, of every label.
     fn exchange(&mut self, i: usize, j: usize) {
-        let words = &mut self.words;
+        let words = &mut self.0;
         if j < 6 {
             let (apart, lower) = ((1 << j) - (1 << i), !ZERO_DIGIT[i] & ZERO_DIGIT[j]);
             for word in words {
@@ -69,71 +61,90 @@ impl Labels {
             }
         }
     }
+}
 
-    /// Both halves across the highest digit, which is no more.
-    pub fn fold_top(&mut self) {
-        self.digits -= 1;
-        if self.digits < 6 {
-            let half = 1 << self.digits;
-            self.words[0] &= self.words[0] >> half & ((1 << half) - 1);
-        } else {
-            let (lower, upper) = self.words.split_at_mut(1 << (self.digits - 6));
-            lower.iter_mut().zip(upper).for_each(|(l, u)| *l &= *u);
-        }
+impl Labels<1> {
+    /// Both halves of 2^(digits + 1) labels.
+    pub fn fold_word(&mut self, digits: u32) {
+        let half = 1 << digits;
+        self.0[0] &= self.0[0] >> half & ((1 << half) - 1);
+    }
+}
+
+impl<const L: usize> Labels<L> {
+    /// Both halves across the highest digit, H being half of L.
+    pub fn halves<const H: usize>(&self) -> Labels<H> {
+        Labels(from_fn(|w| self.0[w] & self.0[w + H]))
     }
 
-    /// The blocks of 2^low labels that are free, and the place of their lowest
-    /// digit: below a word's size a block is the bit of its lowest label, from
-    /// there on the bits stand side by side.
-    pub fn blocks(mut self, low: u32) -> (Labels, u32) {
-        let mut len = self.len();
+    /// Which words are all free, as one word.
+    fn words(&self) -> Labels<1> {
+        Labels([(0..L).fold(0, |full, w| full | u64::from(self.0[w] == !0) << w)])
+    }
+
+    /// Which blocks of 2^low labels are free, low below 6: the flag of a block
+    /// is that of its lowest label, the others are 0.
+    fn blocks(&self, low: u32) -> Labels<L> {
+        let mut words = self.0;
+        let mut lowest = !0;
+        for i in 0..low {
+            words.iter_mut().for_each(|w| *w &= *w >> (1 << i));
+            lowest &= ZERO_DIGIT[i as usize];
+        }
+        Labels(words.map(|w| w & lowest))
+    }
+
+    /// The least block of 2^low labels that is free, counted from 0.
+    pub fn first_block(&self, low: u32) -> Option<u32> {
         if low < 6 {
-            let lowest = (0..low as usize).fold(!0, |mask, i| mask & ZERO_DIGIT[i]);
-            for word in &mut self.words[..len] {
-                *word = (0..low).fold(*word, |w, i| w & w >> (1 << i)) & lowest;
-            }
-            return (self, low);
+            Some(self.blocks(low).first()? >> low)
+        } else {
+            self.words().first_block(low - 6)
         }
-        for _ in 6..low {
-            len /= 2;
-            (0..len).for_each(|w| self.words[w] = self.words[2 * w] & self.words[2 * w + 1]);
-        }
-        let full = self.words[..len].iter().rev().fold(0, |all, w| all << 1 | u64::from(*w == !0));
-        self.words[0] = full;
-        self.digits -= low;
-        (self, 0)
     }
 
-    /// Those that are set with their partner at one of these places, where
+    /// The least block of 2^low labels that is free together with that one
+    /// place up, for some place of these at which it has a 0; and the least
+    /// such place.
+    pub fn first_pair(&self, low: u32, places: Range<u32>) -> Option<(u32, u32)> {
+        if low >= 6 {
+            return self.words().first_pair(low - 6, places);
+        }
+        let blocks = self.blocks(low);
+        let x = blocks.paired(low + places.start..low + places.end).first()?;
+        let is_paired = |p: &u32| x >> (low + p) & 1 == 0 && blocks.has(x | 1 << (low + p));
+        Some((x >> low, places.clone().find(is_paired)?))
+    }
+
+    /// Those that are set and whose partner at one of these places is, where
     /// they have a 0.
-    pub fn pairs(&self, places: Range<u32>) -> Labels {
-        let len = self.len();
-        let mut any = [0; 16];
+    fn paired(&self, places: Range<u32>) -> Labels<L> {
+        let mut any = [0; L];
         for i in places {
             if i < 6 {
-                for (any, w) in any.iter_mut().zip(&self.words[..len]) {
+                for (any, w) in any.iter_mut().zip(&self.0) {
                     *any |= w & w >> (1 << i) & ZERO_DIGIT[i as usize];
                 }
                 continue;
             }
             let above = 1 << (i - 6);
-            for two in (0..len).step_by(2 * above) {
+            for two in (0..L).step_by(2 * above) {
                 for w in two..two + above {
-                    any[w] |= self.words[w] & self.words[w + above];
+                    any[w] |= self.0[w] & self.0[w + above];
                 }
             }
         }
-        Labels { words: any, ..*self }
+        Labels(any)
     }
 
-    pub fn has(&self, x: u32) -> bool {
-        self.words[x as usize / 64] >> (x % 64) & 1 == 1
+    fn has(&self, x: u32) -> bool {
+        self.0[x as usize / 64] >> (x % 64) & 1 == 1
     }
 
     /// The least that is set.
-    pub fn first(&self) -> Option<u32> {
-        let w = self.words[..self.len()].iter().position(|word| *word != 0)?;
-        Some(64 * w as u32 + self.words[w].trailing_zeros())
+    fn first(&self) -> Option<u32> {
+        let w = self.0.iter().position(|word| *word != 0)?;
+        Some(64 * w as u32 + self.0[w].trailing_zeros())
     }
 }
 
