@@ -7,7 +7,8 @@ mod table;
 
 use cube_bench::options::Options;
 use cube_bench::rows::{Call, Row};
-use cube_bench::{limit, parts, time};
+use cube_bench::time::{self, Times};
+use cube_bench::{limit, parts};
 use cube_proved as proved;
 use cube_reference as reference;
 use std::path::Path;
@@ -25,7 +26,8 @@ fn programs(row: &Row) -> Vec<Call> {
 }
 
 /// Whether more rounds may bring a row below its goal.
-fn in_doubt(took: &[f64]) -> bool {
+fn in_doubt(times: &Times) -> bool {
+    let took = times.of_calls();
     let near = |program: usize, goal: f64| {
         took.get(program).is_some_and(|other| (goal..1.2 * goal).contains(&(took[0] / other)))
     };
@@ -33,14 +35,14 @@ fn in_doubt(took: &[f64]) -> bool {
 }
 
 fn lines(rows: &[Row]) -> Vec<Line> {
-    let took = time::times(rows, programs, in_doubt);
-    let line = |(row, took): (&Row, Vec<f64>)| Line {
+    let times = time::times(rows, programs, in_doubt);
+    let line = |(row, times): (&Row, &Times)| Line {
         name: row.to_string(),
         unit: "ns",
         refused: row.answer(proved::call).0 != 0,
-        took,
+        took: times.of_calls(),
     };
-    rows.iter().zip(took).map(line).collect()
+    rows.iter().zip(&times).map(line).collect()
 }
 
 /// The log program's times, in milliseconds.

@@ -25,15 +25,16 @@ fn round(start: &Record, mut turn: impl FnMut(&mut Record)) -> f64 {
 }
 
 /// The least times of a row's call so far, by each program, and of the clock
-/// that was read.
-struct Times {
+/// that was read; and in each round the first program's time by the second's.
+pub struct Times {
     clock: f64,
     least: Vec<f64>,
+    ratios: Vec<f64>,
 }
 
 impl Times {
     fn none(programs: usize) -> Times {
-        Times { clock: f64::MAX, least: vec![f64::MAX; programs] }
+        Times { clock: f64::MAX, least: vec![f64::MAX; programs], ratios: Vec::new() }
     }
 
     /// Some rounds more, in which the programs take turns.
@@ -43,17 +44,30 @@ impl Times {
             self.clock = self.clock.min(round(&row.start, |record| {
                 black_box(record);
             }));
+            let mut took = Vec::new();
             for (least, call) in self.least.iter_mut().zip(programs) {
-                *least = least.min(round(&row.start, |record| {
+                took.push(round(&row.start, |record| {
                     black_box(call(black_box(record), &row.call, &mut reply));
                 }));
+                *least = least.min(took[took.len() - 1]);
             }
+            self.ratios.push((took[0] - self.clock) / (took[1] - self.clock));
         }
     }
 
     /// What the calls took, without the clock.
-    fn of_calls(&self) -> Vec<f64> {
+    pub fn of_calls(&self) -> Vec<f64> {
         self.least.iter().map(|both| both - self.clock).collect()
+    }
+
+    /// How much longer the first program surely takes than the second: by the
+    /// least times and by half of the rounds. Where the machine is busy with
+    /// other things, only one of these is often too high.
+    pub fn slower(&self) -> f64 {
+        let took = self.of_calls();
+        let mut ratios = self.ratios.clone();
+        ratios.sort_by(f64::total_cmp);
+        (took[0] / took[1]).min(ratios[ratios.len() / 2])
     }
 }
 
@@ -70,16 +84,16 @@ fn agreed(row: &Row, programs: Vec<Call>) -> Vec<Call> {
 pub fn times(
     rows: &[Row],
     programs: impl Fn(&Row) -> Vec<Call>,
-    in_doubt: impl Fn(&[f64]) -> bool,
-) -> Vec<Vec<f64>> {
+    in_doubt: impl Fn(&Times) -> bool,
+) -> Vec<Times> {
     let programs: Vec<_> = rows.iter().map(|row| agreed(row, programs(row))).collect();
     let mut all: Vec<_> = programs.iter().map(|programs| Times::none(programs.len())).collect();
     for pass in 0..12 {
         for ((row, programs), times) in rows.iter().zip(&programs).zip(&mut all) {
-            if pass < 4 || in_doubt(&times.of_calls()) {
+            if pass < 4 || in_doubt(times) {
                 times.more(row, programs);
             }
         }
     }
-    all.iter().map(Times::of_calls).collect()
+    all
 }
