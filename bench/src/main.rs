@@ -57,21 +57,24 @@ fn log_lines(programs: [&Path; 2]) -> std::io::Result<Vec<Line>> {
 fn main() -> std::io::Result<()> {
     let options = Options::read();
     let mut all = Vec::new();
-    let (title, mut head) = ("a log of a million frames", false);
-    if let ([ours, theirs], true) = (&options.rest[..], options.wants(title)) {
+    let title = "a log of a million frames";
+    if let ([ours, theirs], true) = (&options.files[..], options.wants(title)) {
         all = log_lines([Path::new(ours), Path::new(theirs)])?;
         table::rows(title, &all);
     }
-    for part in parts::all(&options) {
+    let (whole, short): (Vec<_>, Vec<_>) =
+        parts::all(&options).into_iter().partition(|part| part.each || options.all);
+    for part in whole {
         let lines = lines(&part.rows);
-        if part.each || options.all {
-            table::rows(&part.title, &lines);
-        } else {
-            if !std::mem::replace(&mut head, true) {
-                table::parts();
-            }
-            table::part(&part.title, &lines);
-        }
+        table::rows(&part.title, &lines);
+        all.extend(lines);
+    }
+    if !short.is_empty() {
+        table::heads();
+    }
+    for part in short {
+        let lines = lines(&part.rows);
+        table::part(&part.title, &lines);
         all.extend(lines);
     }
     table::summary(&all);

@@ -1,21 +1,25 @@
 //! The words of a command line.
 
-/// `--all`, `--only TEXT`, and what else stands there.
+use std::process::exit;
+
+/// `--all`, `--only TEXT`, and the files that are named.
+#[derive(Default)]
 pub struct Options {
     pub all: bool,
     pub only: String,
-    pub rest: Vec<String>,
+    pub files: Vec<String>,
 }
 
 impl Options {
     pub fn read() -> Options {
-        let mut options = Options { all: false, only: String::new(), rest: Vec::new() };
+        let mut options = Options::default();
         let mut words = std::env::args().skip(1);
         while let Some(word) = words.next() {
             match &word[..] {
                 "--all" => options.all = true,
-                "--only" => options.only = words.next().expect("--only TEXT"),
-                _ => options.rest.push(word),
+                "--only" => options.only = words.next().unwrap_or_else(usage),
+                _ if word.starts_with('-') => usage(),
+                _ => options.files.push(word),
             }
         }
         options
@@ -25,4 +29,9 @@ impl Options {
     pub fn wants(&self, title: &str) -> bool {
         title.contains(&self.only)
     }
+}
+
+fn usage<T>() -> T {
+    eprintln!("options: --all, --only TEXT");
+    exit(2)
 }

@@ -9,6 +9,7 @@ use cube_reference::family::{family, Subcube};
 use cube_reference::record::{set_condition, set_holder, set_map, FAULTY, GOOD};
 use cube_reference::rng::Rng;
 use cube_reference::{node, relabel, Map, IDENTITY};
+use Other::{Faulty, Held, Silent};
 
 /// A request, with the last member of its family.
 struct Request {
@@ -43,6 +44,11 @@ impl Request {
         Request { n, k, last }
     }
 
+    /// The stars that a tree's member has beside its highest.
+    fn low(&self) -> u32 {
+        self.k.saturating_sub(1)
+    }
+
     /// Whether a label is in the upper half.
     fn upper(&self, x: u32) -> bool {
         x >= 1 << self.n >> 1
@@ -54,12 +60,24 @@ impl Request {
     }
 }
 
+fn ones(count: u32) -> u32 {
+    (1 << count) - 1
+}
+
+/// Whether a label is the last of a block of 2^low.
+fn ends(x: u32, low: u32) -> bool {
+    x & ones(low) == ones(low)
+}
+
+/// Whether the one-bits are even in number: no two such are neighbours.
+fn is_even(x: u32) -> bool {
+    x.count_ones().is_multiple_of(2)
+}
+
 /// The same labels always, about so many of a hundred.
 fn chosen(x: u32, percent: u32) -> bool {
     Rng::new(u64::from(x) << 32 | 22).below(100) < percent
 }
-
-use Other::{Faulty, Held, Silent};
 
 /// Patterns in which at most a few labels are not free.
 const SILENT: [Pattern; 4] = [
@@ -76,7 +94,21 @@ const WEIGHTS: [Pattern; 5] = [
     pattern("bad above k one-bits", Faulty, |r, x| x.count_ones() <= r.k),
     pattern("bad up to n - k one-bits", Faulty, |r, x| x.count_ones() > r.n - r.k),
     pattern("bad below n - k one-bits", Faulty, |r, x| x.count_ones() >= r.n - r.k),
-    pattern("half free, no neighbours", Silent, |_, x| x.count_ones() % 2 == 0),
+    pattern("half free, no neighbours", Silent, |_, x| is_even(x)),
+];
+
+/// By blocks of k or of k - 1 low stars: tests that fail at the last label,
+/// at the first, or only for the partner of a block that is free.
+const BLOCKS: [Pattern; 5] = [
+    pattern("first of each 2^k bad", Silent, |r, x| x & ones(r.k) != 0),
+    pattern("last of each 2^k bad", Silent, |r, x| !ends(x, r.k)),
+    pattern("last of each 2^k bad but the last member", Silent, |r, x| {
+        !ends(x, r.k) || r.in_last(x)
+    }),
+    pattern("every other 2^(k-1) bad", Faulty, |r, x| is_even(x >> r.low())),
+    pattern("last of every other 2^(k-1) bad", Faulty, |r, x| {
+        is_even(x >> r.low()) || !ends(x, r.low())
+    }),
 ];
 
 /// Patterns in which the free members come late, or only the first are.
@@ -152,18 +184,19 @@ fn titled(n: u32, patterns: Vec<Pattern>, map: Map) -> impl Iterator<Item = (Str
 
 /// Every pattern, on a cube as it was set up.
 pub fn plain(n: u32) -> impl Iterator<Item = (String, Vec<Row>)> {
-    titled(n, [&SILENT[..], &WEIGHTS, &LATE, &MIXED].concat(), IDENTITY)
+    titled(n, [&SILENT[..], &WEIGHTS, &BLOCKS, &LATE, &MIXED].concat(), IDENTITY)
 }
 
 /// Some of each sort, with every other direction mapped to the lower ones.
 pub fn relabelled(n: u32) -> impl Iterator<Item = (String, Vec<Row>)> {
     let (map, _) = relabel(n, [0, 0x2aa % (1 << n)]);
-    let some = [SILENT[3], WEIGHTS[0], WEIGHTS[3], LATE[4], MIXED[3], MIXED[7]];
+    let some = [SILENT[3], WEIGHTS[0], WEIGHTS[3], BLOCKS[2], LATE[4], MIXED[3], MIXED[7]];
     titled(n, some.to_vec(), map)
 }
 
 /// Some of each sort, on a smaller cube.
 pub fn small(n: u32) -> impl Iterator<Item = (String, Vec<Row>)> {
-    let some = [&SILENT[..], &WEIGHTS, &LATE[4..], &MIXED[1..4], &MIXED[7..]].concat();
+    let some =
+        [&SILENT[..], &WEIGHTS, &BLOCKS[1..], &LATE[5..], &MIXED[2..4], &MIXED[7..]].concat();
     titled(n, some, IDENTITY)
 }

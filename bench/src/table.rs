@@ -20,6 +20,9 @@ struct Anchor {
 const SECOND: Anchor = Anchor { program: 1, name: "second program", goal: 1.0 };
 const LIMIT: Anchor = Anchor { program: 2, name: "limit", goal: 10.0 };
 
+/// How many rows above a goal are named.
+const SHOWN: usize = 20;
+
 impl Line {
     fn ratio(&self, anchor: &Anchor) -> Option<f64> {
         Some(self.took[0] / self.took.get(anchor.program)?)
@@ -51,15 +54,15 @@ fn above(anchor: &Anchor, ratios: &[f64]) -> usize {
 }
 
 /// The heads of `part`'s columns.
-pub fn parts() {
-    println!("\n{:55} {:^29} {:^29}", "", "library / second", "library / limit");
+pub fn heads() {
+    println!("\n{:60} {:^29} {:^29}", "", "library / second", "library / limit");
     let columns = format!("{:>5} {:>6} {:>8} {:>6}", "rows", "median", "highest", "above");
-    println!("{:55}  {columns}  {columns}", "pattern");
+    println!("{:60}  {columns}  {columns}", "pattern");
 }
 
 /// One line for many rows.
 pub fn part(title: &str, lines: &[Line]) {
-    print!("{title:55}");
+    print!("{title:60}");
     for anchor in [SECOND, LIMIT] {
         let ratios = ratios(&anchor, lines);
         if let Some(highest) = ratios.last() {
@@ -76,19 +79,14 @@ fn anchored(what: &str, anchor: &Anchor, lines: &[&Line]) {
     let Some(highest) = ratios.last() else { return };
     let (len, above) = (ratios.len(), above(anchor, &ratios));
     let mean = ratios.iter().sum::<f64>() / len as f64;
-    println!(
-        "\nlibrary / {}, {what}: {len} rows, {above} above {:.2}; highest {highest:.2}, mean {mean:.2}, median {:.2}",
-        anchor.name, anchor.goal, ratios[len / 2]
-    );
+    print!("\nlibrary / {}, {what}: {len} rows, {above} above {:.2}", anchor.name, anchor.goal);
+    println!("; highest {highest:.2}, mean {mean:.2}, median {:.2}", ratios[len / 2]);
     let mut worst: Vec<_> = lines.iter().filter_map(|l| Some((l.ratio(anchor)?, l))).collect();
     worst.sort_by(|a, b| b.0.total_cmp(&a.0));
     for (ratio, line) in worst.iter().filter(|(ratio, _)| *ratio > anchor.goal).take(SHOWN) {
         println!("{ratio:>8.2}  {}", line.name);
     }
 }
-
-/// How many rows above a goal are named.
-const SHOWN: usize = 20;
 
 /// What all rows show.
 pub fn summary(lines: &[Line]) {

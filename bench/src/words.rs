@@ -127,10 +127,11 @@ impl<const L: usize> Labels<L> {
                 }
                 continue;
             }
-            let above = 1 << (i - 6);
-            for two in (0..L).step_by(2 * above) {
-                for w in two..two + above {
-                    any[w] |= self.0[w] & self.0[w + above];
+            let half = 1 << (i - 6);
+            for (any, two) in any.chunks_exact_mut(2 * half).zip(self.0.chunks_exact(2 * half)) {
+                let (lower, upper) = two.split_at(half);
+                for (any, (l, u)) in any.iter_mut().zip(lower.iter().zip(upper)) {
+                    *any |= l & u;
                 }
             }
         }
