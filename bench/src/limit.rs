@@ -124,3 +124,45 @@ fn zeros(alpha: u32, places: Range<u32>) -> u32 {
 fn zeros_before(alpha: u32, places: Range<u32>) -> u32 {
     places.map(|p| (alpha >> (p + 1) << p) + (alpha & ones(p + 1)).min(1 << p)).sum()
 }
+
+#[cfg(test)]
+mod tests {
+    use crate::rows::Record;
+    use cube_reference::record::{set_condition, set_holder, set_map};
+    use cube_reference::rng::Rng;
+    use cube_reference::IDENTITY;
+
+    /// A record with any map, and with one node in so many not free.
+    fn record(rng: &mut Rng, odds: u32) -> Record {
+        let mut record = [0; 3088];
+        cube_reference::setup(&mut record, 10);
+        let mut map = IDENTITY;
+        (1..10).for_each(|i| map.swap(i, rng.below(i as u32 + 1) as usize));
+        set_map(&mut record, &map);
+        for node in 0..1024 {
+            set_condition(&mut record, node, 1);
+            if rng.one_in(odds) {
+                set_condition(&mut record, node, rng.below(3) as u8);
+                set_holder(&mut record, node, 256 << rng.below(3));
+            }
+        }
+        record
+    }
+
+    #[test]
+    fn answers_as_the_second_program_does() {
+        let mut rng = Rng::new(11);
+        for odds in [1, 2, 3, 4, 6, 10, 20, 50, 100, 200, 500, 1000, 5000] {
+            for _ in 0..20 {
+                let record = record(&mut rng, odds);
+                for (k, strategy) in (0..=10).flat_map(|k| [0, 2, 3].map(|s| (k, s))) {
+                    let frame = cube_proved::frame::request(7, k, strategy);
+                    let [mut ours, mut theirs] = [[0; 12]; 2];
+                    let number = super::call(&mut { record }, &frame, &mut ours);
+                    assert_eq!(number, cube_reference::call(&mut { record }, &frame, &mut theirs));
+                    assert_eq!(ours, theirs, "k {k}, strategy {strategy}, {record:?}");
+                }
+            }
+        }
+    }
+}

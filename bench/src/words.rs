@@ -64,10 +64,9 @@ impl Labels<16> {
 }
 
 impl Labels<1> {
-    /// Both halves of 2^(digits + 1) labels.
+    /// Both halves of 2^(digits + 1) labels; of more, all flags are 0.
     pub fn fold_word(&mut self, digits: u32) {
-        let half = 1 << digits;
-        self.0[0] &= self.0[0] >> half & ((1 << half) - 1);
+        self.0[0] &= self.0[0] >> (1 << digits);
     }
 }
 
