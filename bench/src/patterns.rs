@@ -3,19 +3,21 @@
 //! none, nearly all, half; members that come early, late or never.
 
 use crate::rows::{Record, Row};
-use cube_proved::frame::request;
+use cube_proved::frame::{release, request};
 use cube_proved::STRATEGIES;
 use cube_reference::family::{family, Subcube};
-use cube_reference::record::{set_condition, set_holder, set_map, FAULTY, GOOD};
+use cube_reference::record::{holder, set_condition, set_holder, set_map, FAULTY, GOOD};
 use cube_reference::rng::Rng;
 use cube_reference::{node, relabel, Map, IDENTITY};
 use Other::{Faulty, Held, Silent};
 
-/// A request, with the last member of its family.
-struct Request {
+/// A request, with the last member of its family, and a cube that jobs have
+/// used by the same strategy.
+struct Request<'a> {
     n: u32,
     k: u32,
     last: Subcube,
+    used: &'a Record,
 }
 
 /// What a node that isn't free is.
@@ -38,10 +40,10 @@ const fn pattern(name: &'static str, other: Other, free: fn(&Request, u32) -> bo
     Pattern { name, free, other }
 }
 
-impl Request {
-    fn new(n: u32, k: u32, strategy: usize) -> Request {
+impl Request<'_> {
+    fn new(n: u32, k: u32, strategy: usize, used: &Record) -> Request<'_> {
         let last = *family(strategy as u8, n, k).last().expect("no family is empty");
-        Request { n, k, last }
+        Request { n, k, last, used }
     }
 
     /// The stars that a tree's member has beside its highest.
@@ -58,6 +60,22 @@ impl Request {
     fn in_last(&self, x: u32) -> bool {
         x & !self.last.stars == self.last.low
     }
+}
+
+/// A cube after some hundred requests and releases, about half of it held.
+fn used(n: u32, strategy: usize) -> Record {
+    let (mut record, mut rng) = ([0; 3088], Rng::new(22));
+    cube_reference::setup(&mut record, n);
+    (0..1 << n).for_each(|node| set_condition(&mut record, node, GOOD));
+    for job in 1..=300 {
+        let k = rng.below(n.max(2) - 1) as u8;
+        cube_reference::call(&mut record, &request(job, k, strategy as u8), &mut [0; 12]);
+        while 2 * (0..1 << n).filter(|node| holder(&record, *node) != 0).count() > 1 << n {
+            let job = 1 + rng.below(job.into()) as u16;
+            cube_reference::call(&mut record, &release(job), &mut [0; 12]);
+        }
+    }
+    record
 }
 
 fn ones(count: u32) -> u32 {
@@ -124,7 +142,7 @@ const LATE: [Pattern; 6] = [
 ];
 
 /// Even and uneven mixtures.
-const MIXED: [Pattern; 8] = [
+const MIXED: [Pattern; 9] = [
     pattern("every 8th bad, from 0", Silent, |_, x| x % 8 != 0),
     pattern("every 8th bad, from 7", Silent, |_, x| x % 8 != 7),
     pattern("2 % bad", Silent, |_, x| !chosen(x, 2)),
@@ -133,6 +151,7 @@ const MIXED: [Pattern; 8] = [
     pattern("50 % bad", Faulty, |_, x| !chosen(x, 50)),
     pattern("half held, by blocks", Held, |r, x| x >> (r.n / 2) & 1 == 1),
     pattern("half held, by pairs", Held, |_, x| chosen(x / 2, 50)),
+    pattern("half held, by a session", Held, |r, x| holder(r.used, x) == 0),
 ];
 
 /// A record with the labels of a pattern free.
@@ -155,12 +174,12 @@ fn record(request: &Request, pattern: &Pattern, map: &Map) -> Record {
     record
 }
 
-/// Requests of every strategy and k under a pattern; the name says what they
-/// get by the second program.
-fn rows(n: u32, pattern: &Pattern, map: &Map) -> Vec<Row> {
+/// Requests of every strategy and k under a pattern, with a used cube for each
+/// strategy; the name says what they get by the second program.
+fn rows(n: u32, pattern: &Pattern, map: &Map, used: &[Record]) -> Vec<Row> {
     let all = (0..STRATEGIES.len()).flat_map(|s| (0..=n).map(move |k| (s, k)));
     let row = |(strategy, k)| {
-        let start = record(&Request::new(n, k, strategy), pattern, map);
+        let start = record(&Request::new(n, k, strategy, &used[strategy]), pattern, map);
         let call = request(7, k as u8, strategy as u8);
         let outcome = match cube_reference::call(&mut { start }, &call, &mut [0; 12]) {
             0 => "granted",
@@ -176,9 +195,10 @@ fn rows(n: u32, pattern: &Pattern, map: &Map) -> Vec<Row> {
 
 /// The rows of patterns at one n under one map, each with a title.
 fn titled(n: u32, patterns: Vec<Pattern>, map: Map) -> impl Iterator<Item = (String, Vec<Row>)> {
+    let used: Vec<_> = (0..STRATEGIES.len()).map(|strategy| used(n, strategy)).collect();
     patterns.into_iter().map(move |p| {
         let relabelled = if map == IDENTITY { "" } else { ", relabelled" };
-        (format!("n {n}, {}{relabelled}", p.name), rows(n, &p, &map))
+        (format!("n {n}, {}{relabelled}", p.name), rows(n, &p, &map, &used))
     })
 }
 
@@ -190,7 +210,7 @@ pub fn plain(n: u32) -> impl Iterator<Item = (String, Vec<Row>)> {
 /// Some of each sort, with every other direction mapped to the lower ones.
 pub fn relabelled(n: u32) -> impl Iterator<Item = (String, Vec<Row>)> {
     let (map, _) = relabel(n, [0, 0x2aa % (1 << n)]);
-    let some = [SILENT[3], WEIGHTS[0], WEIGHTS[3], BLOCKS[2], LATE[4], MIXED[3], MIXED[7]];
+    let some = [SILENT[3], WEIGHTS[0], WEIGHTS[3], BLOCKS[2], LATE[4], MIXED[3], MIXED[8]];
     titled(n, some.to_vec(), map)
 }
 
