@@ -19,7 +19,7 @@ use Rattle.history.specs.Causes.{Row, Decided, causes, NoMemberFree}
 use Rattle.history.specs.Verdicts.{firstMet, decided, cause, chosen}
 use Rattle.history.proofs.Chosen.{chosen-first, chosen-none}
 use Rattle.state.specs.Valid.{anyBelow}
-use Rattle.state.proofs.Valid.{means-any}
+use Rattle.hypercube.proofs.Below.{means-any}
 
 -- ---- the tests of the rows
 

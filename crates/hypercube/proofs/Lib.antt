@@ -2,6 +2,7 @@
 pub mod Tests
 pub mod Decisions
 pub mod Bits
+pub mod Below
 pub mod Lists
 pub mod Filled
 pub mod Pigeonhole

@@ -10,12 +10,11 @@ ghost use lib.ListN.{length, getD, set};
 ghost use lib.Bits.{bitAnd};
 ghost use lib.Dec.{eqb};
 ghost use Rattle.hypercube.specs.Bits.{width};
-ghost use Rattle.hypercube.specs.Lists.{countBelow};
+ghost use Rattle.hypercube.specs.Lists.{anyBelow, countBelow};
 ghost use Rattle.hypercube.specs.Subcubes.{vertices};
 ghost use Rattle.labels.specs.Flags.{EmptyFrom, byNode};
 ghost use Rattle.labels.specs.Relabelling.{relabelling};
 ghost use Rattle.state.specs.States.{withCondition, withMap, withHolders, given, cleared};
-ghost use Rattle.state.specs.Valid.{anyBelow};
 ghost use Rattle.record.specs.Layout.{encode, decode, Encoded, headRight};
 ghost use Rattle.nodes.specs.Holders.{LowestOf};
 

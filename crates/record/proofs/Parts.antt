@@ -7,11 +7,13 @@ use native.Mathlib.Omega.{arith}
 use borrow.Author.Tests.{le-leb, lt-leb}
 use lib.Dec.{eqb, leb}
 use lib.ListN.{length, getD}
+use Rattle.hypercube.specs.Lists.{anyBelow}
+use Rattle.hypercube.proofs.Below.{means-each}
 use Rattle.hypercube.proofs.Tests.{Means, means-iff, means-eq, means-le, means-and, same-test}
 use Rattle.history.specs.Calls.{word}
-use Rattle.state.specs.Valid.{anyBelow, nodesRight}
+use Rattle.state.specs.Valid.{nodesRight}
 use Rattle.state.proofs.Below.{any-not}
-use Rattle.state.proofs.Valid.{means-each, means-nodes}
+use Rattle.state.proofs.Valid.{means-nodes}
 use Rattle.record.specs.Highest.{highestOf, allZero}
 use Rattle.record.specs.Layout.{decode}
 use Rattle.record.proofs.Round.{decode-holder, decode-condition, each-holder}

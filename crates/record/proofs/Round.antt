@@ -11,11 +11,10 @@ use lib.ListN.{length, getD, length-append, List·getD-append}
 use lib.Seq.{ext-getD}
 use Rattle.hypercube.proofs.Bits.{lt-or}
 use Rattle.hypercube.proofs.Lists.{getD-past, length-of, getD-each, is-each}
-use Rattle.hypercube.proofs.Tests.{means-eq, means-and}
+use Rattle.hypercube.proofs.Tests.{means-true, means-eq, means-and}
 use Rattle.history.specs.Calls.{word}
 use Rattle.state.specs.declared.State.{State}
 use Rattle.state.specs.Valid.{valid}
-use Rattle.state.proofs.Valid.{means-true}
 use Rattle.record.specs.Layout.{words, encode, decode, Encoded, headRight, validRecord}
 
 -- ---- two bytes of each number

@@ -6,8 +6,7 @@ use native.Mathlib.Numerals.{add-one}
 use native.Mathlib.Omega.{arith}
 use borrow.Author.Tests.{ne-eqb}
 use lib.Dec.{eqb}
-use Rattle.hypercube.specs.Lists.{countBelow}
-use Rattle.state.specs.Valid.{allBelow, anyBelow}
+use Rattle.hypercube.specs.Lists.{allBelow, anyBelow, countBelow}
 
 -- what a loop has at i it has at N, once it is left
 ends : {A : Type 0} (f : ℕ → A) (N i : ℕ) (b : A) → b ≡ f i → i ≤ N → N ≤ i → b ≡ f N

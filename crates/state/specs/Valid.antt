@@ -1,23 +1,15 @@
 -- What refusal 1 tests of a state. Document 01, "Node and record": "Nodes from 2^n up have holder and condition 0; map entries above n are i itself,
 -- the first n permute 1 to n. Refusal 1 tests this, n up to 10 and conditions up to 2; below 2^n any holders pass."
-use Prim.Native.Nat.{ℕ, zero, suc, _+_, _^_, _<_, _≤_}
+use Prim.Native.Nat.{ℕ, _+_, _^_, _<_, _≤_}
 use mathlib.Core.Path.{_≡_}
-use mathlib.Core.Bool.{Bool, true, false, not, cond, _&&_, _||_}
+use mathlib.Core.Bool.{Bool, not, cond, _&&_}
 use mathlib.Core.List.{List}
 use lib.Dec.{eqb, ltb, leb}
 use lib.ListN.{getD}
+pub use Rattle.hypercube.specs.Lists.{allBelow, anyBelow}
 use Rattle.hypercube.specs.Bits.{width}
 use Rattle.hypercube.specs.Labels.{Permutes}
 use Rattle.state.specs.declared.State.{State}
-
--- each number below N passes; some number below N does
-unfoldable pub allBelow : (ℕ → Bool) → ℕ → Bool
-allBelow test zero = true
-allBelow test (suc N) = allBelow test N && test N
-
-unfoldable pub anyBelow : (ℕ → Bool) → ℕ → Bool
-anyBelow test zero = false
-anyBelow test (suc N) = anyBelow test N || test N
 
 -- the entry at place i: of the first n it is 1 to n and none of those before it, of the others it is its own
 unfoldable pub entryRight : List ℕ → ℕ → ℕ → Bool

@@ -5,8 +5,9 @@ ghost use mathlib.Core.Bool.{not};
 ghost use Prim.Native.Nat.{_^_, _<_, _≤_};
 ghost use lib.Dec.{eqb};
 ghost use lib.ListN.{getD};
+ghost use Rattle.hypercube.specs.Lists.{allBelow};
 ghost use Rattle.state.specs.States.{freshState};
-ghost use Rattle.state.specs.Valid.{allBelow, entryRight, mapRight};
+ghost use Rattle.state.specs.Valid.{entryRight, mapRight};
 ghost use Rattle.state.specs.Acts.{numberOf};
 
 // A cube: its dimension, the map, and the holder and the condition of each of 1024 nodes (document 01, "Node and record").

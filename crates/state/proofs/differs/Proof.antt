@@ -6,7 +6,7 @@ use mathlib.Core.List.{List}
 use native.Mathlib.Omega.{arith}
 use lib.Dec.{eqb}
 use lib.ListN.{getD}
-use Rattle.state.specs.Valid.{allBelow}
+use Rattle.hypercube.specs.Lists.{allBelow}
 use Rattle.state.proofs.Below.{all-next, all-ends}
 use Rattle.state.proofs.differs.Statement.{statement}
 use Rattle.state.proofs.differs.Tie as tie

@@ -2,7 +2,8 @@
 use Prim.Native.Nat.{_-_, _≤_}
 use mathlib.Core.Path.{_≡_, refl}
 use native.Mathlib.Omega.{arith}
-use Rattle.state.specs.Valid.{allBelow, entryRight, mapRight}
+use Rattle.hypercube.specs.Lists.{allBelow}
+use Rattle.state.specs.Valid.{entryRight, mapRight}
 use Rattle.state.proofs.Below.{all-next, all-ends}
 use Rattle.state.proofs.entries_right.Statement.{statement}
 use Rattle.state.proofs.entries_right.Tie as tie
