@@ -1,5 +1,4 @@
 // Requests and releases, on a record's bytes where they lie.
-use hypercube::Label;
 use hypercube::Walk;
 use state::Reply;
 use state::refused;
@@ -8,12 +7,12 @@ ghost use mathlib.Core.Bool.{true};
 ghost use Prim.Native.Nat.{_≤_};
 ghost use Rattle.state.specs.declared.Call.the-variants.{Request, Release};
 ghost use Rattle.state.specs.Acts.{walkOf};
-ghost use Rattle.state.specs.Tried.{triedIn};
+ghost use Rattle.state.specs.Walked.{triedIn};
 ghost use Rattle.record.specs.Layout.{validRecord, decode};
 ghost use Rattle.steps.specs.Carried.{Carried};
 ghost use Rattle.grants.specs.Grants.{Grants};
 
-// A walk's 'tried': the place of the member found, or the family's whole count.
+// A walk's 'tried': the place of the member found, or the family's whole count, which the refusal has.
 fn tried_in(walk: Walk) -> u16
     ensures { λ r. ⌜ r ≡ triedIn walk ⌝ }
 {
@@ -43,12 +42,14 @@ fn grant_on(rec: &mut [u8], job: u16, k: u8, strategy: u8) -> Reply
 {
     let map = record::load_map(rec);
     let walk = walk_of(rec, &map, k, strategy);
-    let tried = tried_in(walk);
-    let Walk::Found(c, _) = walk else {
-        return Reply::Refused { number: 14, tried };
+    let Walk::Found(c, tried) = walk else {
+        return Reply::Refused {
+            number: 14,
+            tried: tried_in(walk),
+        };
     };
     let low = labels::node_of(&map, c.low);
-    let stars = labels::node_of(&map, Label(c.stars)).0;
+    let stars = labels::stars_of(&map, c.stars);
     nodes::give(rec, low, stars, job);
     Reply::Granted {
         job,

@@ -24,7 +24,7 @@ use Rattle.state.specs.declared.Reply.the-variants.{Granted, Refused, Do
 use Rattle.state.specs.States.{withCondition, withMap, withHolders, given, cleared}
 use Rattle.state.specs.Valid.{anyBelow, valid}
 use Rattle.state.specs.Acts.{step, refuse, nodeCount, holds, anyHeld, allowed, toldOf, reportStep, relabelStep, walkOf, grantStep, requestStep, releaseStep, acted, called}
-use Rattle.state.specs.Tried.{triedIn}
+use Rattle.state.specs.Walked.{triedIn}
 use Rattle.state.proofs.Below.{any-counted}
 
 -- ---- a report that node x is in condition v
@@ -114,17 +114,17 @@ module _ (s : State) (j k f : ℕ) where
 
 -- ---- what is told of a walk
 
-module _ (s : State) (j : ℕ) (w v : Walk) (a : w ≡ v) (tried : ℕ) (q : tried ≡ triedIn w) where
-  pub grant-14 : (t : ℕ) → w ≡ NoneFree t → step s (Refused 14 tried) ≡ grantStep s j v
-  grant-14 t e = ap (λ (m : ℕ). step s (Refused 14 m)) (q ∙ ap triedIn e) ∙ ap (grantStep s j) (sym e ∙ a)
+module _ (s : State) (j : ℕ) (w v : Walk) (a : w ≡ v) where
+  pub grant-14 : (t : ℕ) → w ≡ NoneFree t → (tried : ℕ) → tried ≡ triedIn w → step s (Refused 14 tried) ≡ grantStep s j v
+  grant-14 t e tried q = ap (λ (m : ℕ). step s (Refused 14 m)) (q ∙ ap triedIn e) ∙ ap (grantStep s j) (sym e ∙ a)
 
   -- ds is the map that the member was moved by
   pub grant-found : (c : Subcube) (t : ℕ) → w ≡ Found c t → {ds : List ℕ} → ds ≡ s .map → (low : Node) → low .0 ≡ node ds (c .low .0)
       → (stars : ℕ) → stars ≡ node ds (c .stars)
-      → step (withHolders s (given (s .holders) (vertices width stars (low .0)) j)) (Granted j low stars tried) ≡ grantStep s j v
+      → step (withHolders s (given (s .holders) (vertices width stars (low .0)) j)) (Granted j low stars t) ≡ grantStep s j v
   grant-found c t e {ds} ed low el stars es =
       let at : low ≡ numbered (node ds (c .low .0)) = ap numbered el in
-      rw (sym a ∙ e, at, es, ed, q ∙ ap triedIn e)
+      rw (sym a ∙ e, at, es, ed)
 
 -- ---- a call on any state
 

@@ -5,11 +5,10 @@ use lib.Dec.{eqb, ltb}
 use lib.ListN.{getD}
 use Rattle.hypercube.specs.Bits.{width}
 use Rattle.hypercube.specs.Lists.{countBelow}
-use Rattle.hypercube.specs.Labels.{node, differing, size, relabelled}
+use Rattle.hypercube.specs.Labels.{differing, size, relabelled}
 use Rattle.hypercube.specs.Subcubes.{vertices}
 use Rattle.hypercube.specs.Families.{choice}
 use Rattle.hypercube.specs.declared.Walk.{Walk}
-use Rattle.hypercube.specs.declared.Walk.the-variants.{Found, NoneFree}
 use Rattle.labels.specs.Flags.{flags}
 use Rattle.labels.specs.Relabelling.{faulty}
 use Rattle.walks.specs.Flagged.{flagged}
@@ -21,6 +20,7 @@ use Rattle.state.specs.declared.Reply.the-variants.{Granted, Refused, Do
 use Rattle.state.specs.declared.Step.{Step}
 use Rattle.state.specs.States.{withCondition, withMap, withHolders, given, cleared}
 use Rattle.state.specs.Valid.{anyBelow, valid}
+use Rattle.state.specs.Walked.{replyOf}
 
 -- a reply's number: 0, or the refusal's
 abbrev pub numberOf : Reply → ℕ
@@ -68,13 +68,15 @@ relabelStep s =
 abbrev pub walkOf : State → ℕ → ℕ → Walk
 walkOf s k f = choice f (s .n) k (flagged (flags (s .n) (s .map) (s .conditions) (s .holders)))
 
--- a walk's answer: the member granted, by its lowest node and its star bits; or refusal 14 with the family's whole count
+-- a reply to a request, done to a state: where it is a grant, its job becomes the holder of each node of the subcube granted
+abbrev pub granting : State → Reply → Step
+granting s (Granted j low stars t) = step (withHolders s (given (s .holders) (vertices width stars (low .0)) j)) (Granted j low stars t)
+granting s (Refused m t) = step s (Refused m t)
+granting s (Done v) = step s (Done v)
+
+-- a request of job j that meets no cause before 14, by its walk's answer
 abbrev pub grantStep : State → ℕ → Walk → Step
-grantStep s j (Found c t) =
-    let low = node (s .map) (c .low .0) in
-    let stars = node (s .map) (c .stars) in
-    step (withHolders s (given (s .holders) (vertices width stars low) j)) (Granted j (record { 0 = low }) stars t)
-grantStep s j (NoneFree t) = step s (Refused 14 t)
+grantStep s j w = granting s (replyOf (s .map) j w)
 
 unfoldable pub requestStep : State → ℕ → ℕ → ℕ → Step
 requestStep s j k f =

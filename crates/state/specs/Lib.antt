@@ -1,5 +1,5 @@
 -- What the six calls do to a state.
 pub mod States
 pub mod Valid
+pub mod Walked
 pub mod Acts
-pub mod Tried

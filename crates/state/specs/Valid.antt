@@ -6,7 +6,7 @@ use mathlib.Core.Bool.{Bool, not, cond, _&&_}
 use mathlib.Core.List.{List}
 use lib.Dec.{eqb, ltb, leb}
 use lib.ListN.{getD}
-pub use Rattle.hypercube.specs.Lists.{allBelow, anyBelow}
+unfoldable pub use Rattle.hypercube.specs.Lists.{allBelow, anyBelow}
 use Rattle.hypercube.specs.Bits.{width}
 use Rattle.hypercube.specs.Labels.{Permutes}
 use Rattle.state.specs.declared.State.{State}

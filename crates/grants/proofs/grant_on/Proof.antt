@@ -18,32 +18,33 @@ walk-of-requires c κs =
     let start = c .before .before .before .before .before in
     (start .pre .0, (c .before .before .load-map .ensures, start .pre .1))
 
-tried-in-requires : tie.Need-tried-in-requires
-tried-in-requires c κs = search needs
-
 enum-known-walk : tie.Need-enum-known-walk
 enum-known-walk c = search needs
 
 enum-told : tie.Need-enum-told
 enum-told c = search needs
 
+tried-in-requires : tie.Need-tried-in-requires
+tried-in-requires c κs = search needs
+
 same-length : tie.Need-same-length
 same-length c = search needs
 
 returns : tie.Need-returns
 returns c =
-    let at = c .before .before in
+    let told = c .before in
+    let walk = told .before .before in
     told-only _ _ (Refused 14 _) (λ z. absurd (omega arith))
-    (grant-14 _ _ _ _ (at .before .walk-of .ensures) _ (at .tried-in .ensures) _ (c .enum-told .given .1))
+    (grant-14 _ _ _ _ (walk .walk-of .ensures) _ (told .enum-told .given .1) _ (c .tried-in .ensures))
 
 node-of-requires : tie.Need-node-of-requires
 node-of-requires c κs =
-    let load = c .before .before .before .before .before .before .before .before in
+    let load = c .before .before .before .before .before .before .before in
     map-directions _ (load .before .before .before .pre .0) (load .load-map .ensures)
 
-node-of-requires-2 : tie.Need-node-of-requires-2
-node-of-requires-2 c κs =
-    let load = c .before .before .before .before .before .before .before .before .before .before in
+stars-of-requires : tie.Need-stars-of-requires
+stars-of-requires c κs =
+    let load = c .before .before .before .before .before .before .before .before .before in
     map-directions _ (load .before .before .before .pre .0) (load .load-map .ensures)
 
 give-requires : tie.Need-give-requires
@@ -51,13 +52,13 @@ give-requires c κs =
     let second = c .before in
     let first = second .before .before in
     let told = first .before .before .before in
-    let walk = told .before .before .before in
+    let walk = told .before .before in
     let load = walk .before .before .before in
     let start = load .before .before .before in (
       whole _ (start .pre .0),
       lowest-of _ (state-valid _ (start .pre .0)) (start .args .k) (start .args .strategy) (start .pre .1) _ _
           (sym (walk .walk-of .ensures) ∙ told .walk .given .1)
-          (load .load-map .ensures) (first .node-of .ensures) (second .node-of2 .ensures),
+          (load .load-map .ensures) (first .node-of .ensures) (second .stars-of .ensures),
     )
 
 same-length-2 : tie.Need-same-length-2
@@ -69,11 +70,11 @@ returns-2 c =
     let second = gave .before .before in
     let first = second .before .before in
     let told = first .before .before .before in
-    let tried = told .before .before in
-    let load = tried .before .before .before .before in
+    let walk = told .before .before in
+    let load = walk .before .before .before in
     accepts _ _ _ refl
-    (grant-found _ _ _ _ (tried .before .walk-of .ensures) _ (tried .tried-in .ensures) _ _ (told .walk .given .1)
-    (load .load-map .ensures) _ (first .node-of .ensures) _ (second .node-of2 .ensures))
+    (grant-found _ _ _ _ (walk .walk-of .ensures) _ _ (told .walk .given .1)
+    (load .load-map .ensures) _ (first .node-of .ensures) _ (second .stars-of .ensures))
     (gave .give .ensures)
 
 pub grant-on-spec : {M : Type 1} → statement M
@@ -82,13 +83,13 @@ grant-on-spec =
     (tie.spec
     load-map-requires
     walk-of-requires
-    tried-in-requires
     enum-known-walk
     enum-told
+    tried-in-requires
     same-length
     returns
     node-of-requires
-    node-of-requires-2
+    stars-of-requires
     give-requires
     same-length-2
     returns-2)
