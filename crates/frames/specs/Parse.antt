@@ -5,8 +5,11 @@ use mathlib.Core.List.{List}
 use lib.Dec.{eqb, ltb}
 use lib.ListN.{length, getD}
 use Rattle.history.specs.Calls.{Kind, good, fault, repaired, relabel, request, release, other, word, kindOf, size}
+use Rattle.state.specs.declared.State.{State}
 use Rattle.state.specs.declared.Call.{Call}
 use Rattle.state.specs.declared.Call.the-variants.{Good, Fault, Repaired, Relabel, Request, Release}
+use Rattle.state.specs.declared.Step.{Step}
+use Rattle.state.specs.Acts.{refuse, acted}
 use Rattle.frames.specs.declared.Parsed.{Parsed}
 use Rattle.frames.specs.declared.Parsed.the-variants.{Known, Bad}
 
@@ -25,3 +28,9 @@ byKind f other = Bad 4
 
 unfoldable pub parsed : List ℕ → Parsed
 parsed f = cond (ltb (length f) 4 || not (eqb (word f 0) (length f))) (Bad 3) (byKind f (kindOf (word f 2)))
+
+-- what was read, in document 01's numbers and values: a call does to a state what that call does; any other frame is refused with its number, 3, 4 or 5,
+-- and tried 0, with the state as it came
+abbrev pub stepOf : State → Parsed → Step
+stepOf s (Known c) = acted s c
+stepOf s (Bad m) = refuse s m
