@@ -13,6 +13,7 @@ use Rattle.record.specs.Layout.{encode, decode, validRecord}
 use Rattle.frames.specs.declared.Parsed.{Parsed}
 use Rattle.frames.specs.declared.Parsed.the-variants.{Known, Bad}
 use Rattle.frames.specs.Parse.{parsed}
+pub use Rattle.frames.specs.Parse.{stepOf}
 use Rattle.frames.specs.Answer.{frameOf, written}
 
 -- "Set-up gives 1 for a buffer that isn't 3088 bytes, before 7."
@@ -21,11 +22,6 @@ setupNumber r n = cond (eqb (length r) 3088) (cond (leb n 10) 0 7) 1
 
 unfoldable pub setupRecord : List ℕ → ℕ → List ℕ
 setupRecord r n = cond (eqb (setupNumber r n) 0) (encode (freshState n)) r
-
--- what a frame that is read does to a state; what a frame that is not read is told
-abbrev pub stepOf : State → Parsed → Step
-stepOf s (Known c) = acted s c
-stepOf s (Bad m) = refuse s m
 
 unfoldable pub stepOn : List ℕ → List ℕ → Step
 stepOn r f = stepOf (decode r) (parsed f)
