@@ -116,6 +116,69 @@ fn largest_jobs(rec: &mut [u8]) {
     call(b"release by 0", rec, b"\x06\x00\x02\x02\x00\x00");
 }
 
+// 'good' of a node, with nothing printed.
+fn make_good(rec: &mut [u8], x: u16) {
+    let mut reply = [238; 12];
+    let frame = [6, 0, 1, 1, (x % 256) as u8, (x / 256) as u8];
+    cube::cube_call(rec, &frame, &mut reply);
+}
+
+fn make_all_good(rec: &mut [u8]) {
+    for x in 0..1024u16 {
+        make_good(rec, x);
+    }
+}
+
+// k = n on 1024 good nodes: each family has one member, the whole cube, which is granted, held and given back.
+fn whole_cube(name: &[u8], rec: &mut [u8], frame: &[u8]) {
+    call(name, rec, frame);
+    call(
+        b"all held, request of k 10 by 1",
+        rec,
+        b"\x08\x00\x01\x02\x01\x00\x0a\x00",
+    );
+    call(b"release of 1024 nodes", rec, b"\x06\x00\x02\x02\xff\xff");
+}
+
+fn whole_cubes(rec: &mut [u8]) {
+    whole_cube(
+        b"all good, request of k 10 by buddy",
+        rec,
+        b"\x08\x00\x01\x02\xff\xff\x0a\x00",
+    );
+    whole_cube(
+        b"all good, request of k 10 by Gray",
+        rec,
+        b"\x08\x00\x01\x02\xff\xff\x0a\x01",
+    );
+    whole_cube(
+        b"all good, request of k 10 by tree",
+        rec,
+        b"\x08\x00\x01\x02\xff\xff\x0a\x02",
+    );
+    whole_cube(
+        b"all good, request of k 10 by extended",
+        rec,
+        b"\x08\x00\x01\x02\xff\xff\x0a\x03",
+    );
+}
+
+// n 0: node 0 and no other, k 0 and no other.
+fn one_node(rec: &mut [u8]) {
+    call(b"n 0, good 0", rec, b"\x06\x00\x01\x01\x00\x00");
+    call(b"n 0, good 1", rec, b"\x06\x00\x01\x01\x01\x00");
+    call(
+        b"n 0, request of k 1 by 1",
+        rec,
+        b"\x08\x00\x01\x02\x01\x00\x01\x00",
+    );
+    call(
+        b"n 0, request of k 0 by 1",
+        rec,
+        b"\x08\x00\x01\x02\x01\x00\x00\x00",
+    );
+}
+
 // n 1: node 0 good and held by job 7, node 1 faulty.
 fn prepare(rec: &mut [u8]) {
     call(b"good 0", rec, b"\x06\x00\x01\x01\x00\x00");
@@ -192,6 +255,14 @@ fn largest() {
     cube::cube_setup(&mut rec, 10);
     largest_nodes(&mut rec);
     largest_jobs(&mut rec);
+    make_all_good(&mut rec);
+    whole_cubes(&mut rec);
+}
+
+fn smallest() {
+    let mut rec = buffer();
+    cube::cube_setup(&mut rec, 0);
+    one_node(&mut rec);
 }
 
 fn pairs() {
@@ -210,5 +281,6 @@ fn pairs() {
 fn main() {
     set_ups();
     largest();
+    smallest();
     pairs();
 }
