@@ -5,13 +5,10 @@ use mathlib.Core.Path.{_≡_}
 use mathlib.Core.List.{List}
 use lib.Dec.{eqb, ltb, leb}
 use lib.ListN.{length}
-use Rattle.state.specs.declared.State.{State}
 use Rattle.state.specs.declared.Step.{Step}
 use Rattle.state.specs.States.{freshState}
-use Rattle.state.specs.Acts.{numberOf, refuse, acted}
+use Rattle.state.specs.Acts.{numberOf}
 use Rattle.record.specs.Layout.{encode, decode, validRecord}
-use Rattle.frames.specs.declared.Parsed.{Parsed}
-use Rattle.frames.specs.declared.Parsed.the-variants.{Known, Bad}
 use Rattle.frames.specs.Parse.{parsed}
 pub use Rattle.frames.specs.Parse.{stepOf}
 use Rattle.frames.specs.Answer.{frameOf, written}
