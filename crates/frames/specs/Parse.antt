@@ -29,8 +29,8 @@ byKind f other = Bad 4
 unfoldable pub parsed : List ℕ → Parsed
 parsed f = cond (ltb (length f) 4 || not (eqb (word f 0) (length f))) (Bad 3) (byKind f (kindOf (word f 2)))
 
--- what was read, in document 01's numbers and values: a call does to a state what that call does; any other frame is refused with its number, 3, 4 or 5,
--- and tried 0, with the state as it came
+-- what was read, in document 01's numbers and values: a call does to a state what that call does; any other frame is refused with its number,
+-- 3, 4 or 5, and tried 0, with the state as it came
 abbrev pub stepOf : State → Parsed → Step
 stepOf s (Known c) = acted s c
 stepOf s (Bad m) = refuse s m
