@@ -1,0 +1,2 @@
+-- The laws of a log in pieces: one turn, and every run.
+pub mod Turns
