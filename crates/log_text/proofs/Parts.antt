@@ -39,7 +39,7 @@ module _ (lines : ℕ) (r f : List ℕ) where
       cases (eqb (firstNumber r f) 0) (λ b. let k = rw (a, b) at e in cc) (λ b. let k = rw (a, b) at e in cc)
       ) (λ a. let k = rw a at e in cc)
 
-  on-more : (d : Cursor) → onFrame lines r f d ≡ More → ⊥
+  pub on-more : (d : Cursor) → onFrame lines r f d ≡ More → ⊥
   unfolding onFrame
   on-more d e =
       let z : _≡_ {A = ℕ} 0 1 =
@@ -62,7 +62,7 @@ module _ (lines : ℕ) (r f : List ℕ) where
 
 module _ (lines : ℕ) (r : List ℕ) (last : Bool) (at : ℕ) (l : List ℕ) where
   -- a line that the log goes on after is a whole frame's
-  line-frame : (o : Outcome) (c : Cursor) → stepOf lines r last at l ≡ Line o c → Framed at l c
+  pub line-frame : (o : Outcome) (c : Cursor) → stepOf lines r last at l ≡ Line o c → Framed at l c
   unfolding stepOf
   line-frame o c e =
       framed last at l c

@@ -26,10 +26,10 @@ use Rattle.log.specs.declared.Step.the-variants.{Line, More, End}
 use Rattle.log.specs.Next.{nextOf}
 use Rattle.log.specs.Frames.{firstNumber, firstRecord, readReply, zeros, laterOutcome, laterRecord}
 use Rattle.log.specs.Steps.{onFrame, onRecord, stepOf, stepRecord}
-use Rattle.log.proofs.Nexts as nexts
-use Rattle.log.proofs.Nexts.{Case, case, word-append, next-none, next-lone, next-under, next-past, next-whole}
+use Rattle.log.proofs.Nexts.{word-append, next-whole}
 use Rattle.log.proofs.Firsts.{set-up}
 use Rattle.log_text.specs.Text.{Prints, ends, stops, goes}
+use Rattle.log_text.proofs.Waits.{never-more}
 use Rattle.log_text.specs.Right.{SetsUp, Whole, joined, told, calls, ending, outcomeBy, linesBy, LogRight}
 
 -- ---- what is read from a number and a reply is what is heard
@@ -109,20 +109,9 @@ module _ (n : ℕ) (small : n ≤ 10) (b : List ℕ) (whole : length b ≡ 3088)
     by-next t r h next.End e m = ends t r rest (rw (ne-eqb (t .total) 4294967295 h, e))
     by-next t r h next.Broken e m = stops t r rest (Refused 3 0) (rw (ne-eqb (t .total) 4294967295 h, e))
 
-    -- where the input ends, more is never wanted
-    never-more : nextOf true 0 rest ≢ next.More
-    never-more e = let z : _≡_ {A = ℕ} 0 1 = go (case rest) in omega arith
-      where
-        go : Case rest → _≡_ {A = ℕ} 0 1
-        go (nexts.none h) = let k = next-none true 0 rest h in cc
-        go (nexts.lone h) = let k = next-lone true 0 rest h in cc
-        go (nexts.under w h) = let k = next-under true 0 rest w h in cc
-        go (nexts.past w f h) = let k = next-past true 0 rest w f h in cc
-        go (nexts.whole w f h) = let k = next-whole true 0 rest w f h in cc
-
     later-lines : (fs : List (List ℕ)) (t : Tally) (es : Exchanges) → Whole fs → t .total ≢ 0 → t .total + length fs < 4294967295
         → Prints t (recordAfter delivered n b es) (joined fs rest) (linesBy n t es fs (nextOf true 0 rest))
-    later-lines [] t es w z h = by-next t (recordAfter delivered n b es) (λ e. omega arith) (nextOf true 0 rest) refl never-more
+    later-lines [] t es w z h = by-next t (recordAfter delivered n b es) (λ e. omega arith) (nextOf true 0 rest) refl (never-more 0 rest)
     later-lines (f ∷ fs) t es w z h =
         let more = joined fs rest in
         let r = recordAfter delivered n b es in

@@ -22,3 +22,8 @@ pub data Prints : Tally → List ℕ → List ℕ → List ℕ → Type 0 where
   stops : (t : Tally) (r l : List ℕ) (o : Outcome) → stepOf (t .total) r true 0 l ≡ Last o → Prints t r l (lineAfter t o ++ totalsOf (counted t o))
   goes : (t : Tally) (r l : List ℕ) (o : Outcome) (c : Cursor) (text : List ℕ) → stepOf (t .total) r true 0 l ≡ Line o c
       → Prints (counted t o) (stepRecord (t .total) r true 0 l) (drop (c .at) l) text → Prints t r l (lineAfter t o ++ text)
+
+-- a text that it prints
+pub record Printed (t : Tally) (r l : List ℕ) : Type 0 where
+  pub text : List ℕ
+  pub prints : Prints t r l text
