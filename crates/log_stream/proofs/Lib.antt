@@ -1,2 +1,4 @@
 -- The laws of a log in pieces: one turn, and every run.
 pub mod Turns
+pub mod Invariant
+pub mod Theorem

@@ -123,10 +123,6 @@ module _ (w : List ℕ) (last : Bool) where
       inside = A .moves .inside;
       fits = A .moves .fits;
     };
-    stopped = go (tested q (length out′) (q .ended) (q .waits) refl refl .1 (sym e ∙ h));
+    waiting = A .waiting;
+    stopped = tested q (length out′) (q .ended) (q .waits) refl refl .1 (sym e ∙ h);
   }
-    where
-      go : Halts q (length out′) → (q .ended ≡ true) ⊎ (((q .waits ≡ true) × Waiting w last q r′) ⊎ (length out′ < q .put + 64))
-      go (inl k) = inl k
-      go (inr (inl k)) = inr (inl (k, A .waiting k))
-      go (inr (inr k)) = inr (inr k)

@@ -52,4 +52,5 @@ pub record Turned (w : List ℕ) (last : Bool) (p : Place) (r out : List ℕ) (q
 -- as far as it goes: the log has ended, or more of the input is wanted, or the output has no room for a line
 pub record Ran (w : List ℕ) (last : Bool) (p : Place) (r out : List ℕ) (q : Place) (r′ out′ : List ℕ) : Type 0 where
   pub moves : Moves w last p r out q r′ out′
-  pub stopped : (q .ended ≡ true) ⊎ (((q .waits ≡ true) × Waiting w last q r′) ⊎ (length out′ < q .put + 64))
+  pub waiting : q .waits ≡ true → Waiting w last q r′
+  pub stopped : (q .ended ≡ true) ⊎ ((q .waits ≡ true) ⊎ (length out′ < q .put + 64))
