@@ -1,2 +1,2 @@
--- The places of a session stay in its buffers.
-pub mod Keeps
+-- The laws of a turn.
+pub mod Turning

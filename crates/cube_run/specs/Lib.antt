@@ -1,2 +1,2 @@
--- What the log program keeps.
-pub mod Ready
+-- What a turn of the log program is.
+pub mod Turns

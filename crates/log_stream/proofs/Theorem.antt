@@ -1,75 +1,25 @@
 -- What is claimed of every run of a log in pieces. Assumes nothing.
-use Prim.Native.Nat.{ℕ, _+_, _*_, _-_, _<_, _≤_}
+use Prim.Native.Nat.{ℕ, _+_, _-_, _<_, _≤_}
 use mathlib.Core.Path.{_≡_, refl, sym, ap, subst, _∙_}
-use mathlib.Core.Logic.{_⊎_, inl, inr}
-use mathlib.Core.Bool.{Bool, true, false, cond, true≢false, false≢true}
+use mathlib.Core.Bool.{Bool, true, false, cond}
 use mathlib.Core.List.{List, [], _++_, append-nil}
 use native.Mathlib.Omega.{arith}
-use borrow.Author.Tests.{eqb-true, eqb-false, ltb-true, ltb-false}
+use borrow.Author.Tests.{eqb-false, ltb-true, ltb-false}
 use lib.Dec.{eqb, ltb}
 use lib.ListN.{length, getD, take, drop, length-append, length-take, length-drop, List·getD-eq-default}
 use lib.Seq.{length-take-le, getD-take, getD-drop}
 use Rattle.hypercube.proofs.Tests.{cases}
 use Rattle.history.specs.Calls.{word}
 use Rattle.tally.specs.declared.Tally.{Tally}
-use Rattle.lines.specs.Text.{ascii, item, totalsOf}
+use Rattle.lines.specs.Text.{item, totalsOf}
 use Rattle.lines.proofs.Lengths.{totals-length}
-use Rattle.log_text.proofs.Waits.{Short, step-short}
 use Rattle.log_text.proofs.Once.{prints-some}
 use Rattle.log_stream.specs.declared.Stream.{Stream}
-use Rattle.log_stream.specs.Streams.{took, wrote, unwritten, room, Closed, Wanting, Full, Due, Advanced}
+use Rattle.log_stream.specs.Streams.{took, wrote, unwritten, room, Advanced}
 use Rattle.log_stream.specs.Runs.{Given, piece, Run, begins, reads, writes, turns, Begun, RunRight}
-use Rattle.log_stream.proofs.Turns.{put-kept, room-long, long, at-kept}
-use Rattle.log_stream.proofs.Invariant.{Holds, holds-start, put-front, between, wrote-closed, wrote-full, took-wanting}
-
--- ---- what is due, by what the stream says
-
-module _ {s t : Stream} {r w out r′ w′ out′ : List ℕ} (A : Advanced s r w out t r′ w′ out′) where
-  abbrev lined : List ℕ
-  lined = A .put ++ drop (room out) out
-
-  abbrev Owed : Bool → Bool → Type 0
-  Owed e v = Due e v s (A .stop) w lined t w′ out′
-
-  -- a read
-  pub record Read : Type 0 where
-    pub goes : A .stop .ended ≡ false
-    pub wanting : Wanting s (A .stop) w t w′
-    pub same : out′ ≡ lined
-    pub short : Short (s .last) (drop (A .stop .at) (take (s .filled) w))
-
-  read-due : (e v : Bool) → A .stop .ended ≡ e → A .stop .waits ≡ v → Owed e v → t .place .waits ≡ true → Read
-  read-due true v a d D k = absurd (false≢true (sym (ap (λ (x : Stream). x .place .waits) (D .0 .stream)) ∙ k))
-  read-due false true a d D k = record {
-    goes = a;
-    wanting = D .0;
-    same = D .1;
-    short =
-        step-short (A .stop .tally .total) r′ (s .last) (A .stop .at) (drop (A .stop .at) (take (s .filled) w)) (A .ran .waiting d);
-  }
-  read-due false false a d D k = absurd (true≢false (sym k ∙ ap (λ (x : Stream). x .place .waits) (D .stream) ∙ d))
-
-  pub read : t .place .waits ≡ true → Read
-  read = read-due (A .stop .ended) (A .stop .waits) refl refl (A .due)
-
-  -- a write
-  pub data Write : Type 0 where
-    closed : A .stop .ended ≡ true → Closed s (A .stop) lined t out′ → w′ ≡ w → Write
-    full : A .stop .ended ≡ false → length (A .put) < A .stop .put + 64 → Full s (A .stop) w lined t w′ out′ → Write
-
-  full-put : A .stop .ended ≡ false → A .stop .waits ≡ false
-      → (A .stop .ended ≡ true) ⊎ ((A .stop .waits ≡ true) ⊎ (length (A .put) < A .stop .put + 64)) → length (A .put) < A .stop .put + 64
-  full-put a d (inl e) = absurd (true≢false (sym e ∙ a))
-  full-put a d (inr (inl e)) = absurd (true≢false (sym e ∙ d))
-  full-put a d (inr (inr h)) = h
-
-  write-due : (e v : Bool) → A .stop .ended ≡ e → A .stop .waits ≡ v → Owed e v → t .place .waits ≡ false → Write
-  write-due true v a d D k = closed a (D .0) (D .1)
-  write-due false true a d D k = absurd (true≢false (sym (ap (λ (x : Stream). x .place .waits) (D .0 .stream)) ∙ k))
-  write-due false false a d D k = full a (full-put a d (A .ran .stopped)) D
-
-  pub write : t .place .waits ≡ false → Write
-  write = write-due (A .stop .ended) (A .stop .waits) refl refl (A .due)
+use Rattle.log_stream.proofs.Turns.{put-kept, room-long}
+use Rattle.log_stream.proofs.Dues.{Read, Write, closed, full, read, write, lined-long, read-long, write-long}
+use Rattle.log_stream.proofs.Invariant.{Holds, holds-start, put-front, wrote-closed, wrote-full, took-wanting}
 
 -- ---- the invariant of every run
 
@@ -96,17 +46,6 @@ module _ {b input : List ℕ} {over : Bool} {written : List ℕ} {s t : Stream} 
   holds-wrote : t .place .waits ≡ false → Wrote t w′ out′
   holds-wrote k = holds-write (write A k)
 
-  -- the buffers keep their lengths
-  lined-long : length (A .put ++ drop (room out) out) ≡ length out
-  lined-long = long s r w out (A .stop) r′ (A .put) (H .ready) (A .ran)
-
-  read-long : Read A → (length w′ ≡ length w) × (length out′ ≡ length out)
-  read-long D = (D .wanting .long, ap length (D .same) ∙ lined-long)
-
-  write-long : Write A → (length w′ ≡ length w) × (length out′ ≡ length out)
-  write-long (closed a C same) = (ap length same, C .counts .long ∙ lined-long)
-  write-long (full a h F) = (ap length (F .window), ap length (F .output) ∙ lined-long)
-
 module _ {b window output : List ℕ} (wide : 88 ≤ length output) where
   pub holds : {input : List ℕ} {over : Bool} {written : List ℕ} {s : Stream} {r w out : List ℕ}
       → Run b window output input over written s r w out → Holds b input over written s r w out
@@ -118,8 +57,8 @@ module _ {b window output : List ℕ} (wide : 88 ≤ length output) where
       → Run b window output input over written s r w out → (length w ≡ length window) × (length out ≡ length output)
   kept begins = (refl, refl)
   kept (reads n w″ R on A k G) =
-      let D = read-long (holds R) on A (read A k) in (G .long ∙ D .0 ∙ kept R .0, D .1 ∙ kept R .1)
-  kept (writes R on A k) = let D = write-long (holds R) on A (write A k) in (D .0 ∙ kept R .0, D .1 ∙ kept R .1)
+      let D = read-long (holds R .ready) A (read A k) in (G .long ∙ D .0 ∙ kept R .0, D .1 ∙ kept R .1)
+  kept (writes R on A k) = let D = write-long (holds R .ready) A (write A k) in (D .0 ∙ kept R .0, D .1 ∙ kept R .1)
 
 -- ---- a part of the window that has bytes has bytes
 
@@ -156,14 +95,14 @@ module _ {b input : List ℕ} {over : Bool} {written : List ℕ} {s t : Stream} 
   write-some h (closed a C same) =
       let q = A .stop in
       let fits : q .put + length (totalsOf (q .tally)) ≤ length (A .put ++ drop (room out) out) =
-      omega (arith, totals-length (q .tally), put-kept s r w out q r′ (A .put) (H .ready) (A .ran), lined-long H on A) in
+      omega (arith, totals-length (q .tally), put-kept s r w out q r′ (A .put) (H .ready) (A .ran), lined-long (H .ready) A) in
       rw (put-front (totalsOf (q .tally)) fits (C .counts), length-append) (omega (arith, totals-some (q .tally)))
   write-some h (full a f F) =
       let q = A .stop in
       let put = put-kept s r w out q r′ (A .put) (H .ready) (A .ran) in
       let part : length (A .put) ≡ room out = A .ran .moves .printed .long ∙ room-long s r w out q r′ (A .put) (H .ready) (A .ran) in
       let same : t .place .put ≡ q .put = ap (λ (x : Stream). x .place .put) (F .stream) in
-      rw (length-take-le (t .place .put) out′ (omega (arith, ap length (F .output), lined-long H on A))) (omega arith)
+      rw (length-take-le (t .place .put) out′ (omega (arith, ap length (F .output), lined-long (H .ready) A))) (omega arith)
 
 no-more : (k m : ℕ) (over : Bool) → over ≡ false → k ≤ m + cond over 1 0 → k ≤ m
 no-more k m over e h = let z = rw e at h in omega arith
@@ -205,6 +144,6 @@ module _ (b window output : List ℕ) (large : 65535 ≤ length window) (wide : 
     begun = λ R left end. begun (holds (omega arith) R) left end;
     ready = λ R. holds (omega arith) R .ready;
     asked = λ R on bytes A k.
-        let D = read A k in omega (arith, read-short (holds (omega arith) R) A D bytes, read-long (holds (omega arith) R) on A D .0, kept (omega arith) R .0);
+        let D = read A k in omega (arith, read-short (holds (omega arith) R) A D bytes, read-long (holds (omega arith) R .ready) A D .0, kept (omega arith) R .0);
     moves = λ {over = over} R. omega (arith, moved (omega arith) R, over-one over);
   }

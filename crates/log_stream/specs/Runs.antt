@@ -32,6 +32,13 @@ pub data Run (b window output : List ℕ) : (input : List ℕ) (over : Bool) (wr
       → Run b window output input over written s r w out → s .place .ended ≡ false → Advanced s r w out t r′ w′ out′
       → t .place .waits ≡ false → Run b window output input over (written ++ unwritten t out′) (wrote t) r′ w′ out′
 
+-- a stream with its buffers that a run reaches
+pub record Reached (b window output : List ℕ) (s : Stream) (r w out : List ℕ) : Type 0 where
+  pub input : List ℕ
+  pub over : Bool
+  pub written : List ℕ
+  pub run : Run b window output input over written s r w out
+
 -- how many turns a run has taken
 abbrev pub turns : {b window output input : List ℕ} {over : Bool} {written : List ℕ} {s : Stream} {r w out : List ℕ}
     → Run b window output input over written s r w out → ℕ

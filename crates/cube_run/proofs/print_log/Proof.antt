@@ -1,49 +1,100 @@
--- `cube_run::print_log` is safe, ends, and keeps its places in the buffers. Assumes nothing.
-use borrow.Author.Needs.{needs}
-use mathlib.Core.Path.{sym}
+-- `cube_run::print_log` meets its contract: each turn is a turn of a run. Assumes nothing.
+use mathlib.Core.Path.{_≡_, refl, sym, _∙_}
+use mathlib.Core.Bool.{false}
 use native.Mathlib.Omega.{arith}
-use lib.Seq.{length-take-le}
-use Rattle.cube_run.proofs.Keeps.{room}
+use lib.ListN.{length}
+use Rattle.log_stream.specs.Runs.{Reached}
+use Rattle.cube_run.proofs.Turning.{reached-start, reached-ready, goes}
 use Rattle.cube_run.proofs.print_log.Statement.{statement}
 use Rattle.cube_run.proofs.print_log.Tie as tie
 
-slice-relend-prefix-run-all : tie.Need-slice-relend-prefix-run-all
-slice-relend-prefix-run-all c = search needs
+abbrev Inv-loop : tie.InvT-loop
+Inv-loop rec₀ window₀ out₀ t₀ turns₀ rec window out t turns =
+    (t .failed ≡ false → Reached rec₀ window₀ out₀ (t .stream) rec window out) ×
+    ((length rec ≡ length rec₀) × ((length window ≡ length window₀) × (length out ≡ length out₀)))
 
-slice-aggregate-run-all : tie.Need-slice-aggregate-run-all
-slice-aggregate-run-all c = sym (length-take-le 65536 (c .before .before .before .before .before .before .args .out .now) (omega arith))
+abbrev μ-loop : tie.MeasureT-loop
+μ-loop rec₀ window₀ out₀ t₀ turns₀ rec window out t turns = turns
 
-run-all-requires : tie.Need-run-all-requires
-run-all-requires c κs = search needs
+start-requires : tie.Need-start-requires Inv-loop μ-loop
+start-requires c κs = tt
 
-finish-requires : tie.Need-finish-requires
-finish-requires c κs =
-    let at-run-all = c .before .before .before .before .before .before .before in
-    let start = at-run-all .before .before .before .before .before .before .before in
-    room (start .args .out .now) (at-run-all .run-all .last .1 .1 .0) _ (start .pre) (at-run-all .run-all .kept .1 .1 .0)
-    (at-run-all .run-all .ensures)
+loop-holds : tie.Need-loop-holds Inv-loop μ-loop
+loop-holds c = (λ e. reached-start _ _ _ _ (c .start .ensures), (refl, (refl, refl)))
 
-same-length : tie.Need-same-length
-same-length c = search needs
+goes-on-requires : tie.Need-goes-on-requires Inv-loop μ-loop
+goes-on-requires c κs = tt
 
-same-length-2 : tie.Need-same-length-2
-same-length-2 c = search needs
+turn-requires : tie.Need-turn-requires Inv-loop μ-loop
+turn-requires c κs =
+    let at-if1 = c .before .before .before .before in
+    let at-goes-on = at-if1 .before in
+    let at-loop = c .before .before .before .before .before .before .before in
+    let start = at-loop .before .before .before .before .before in
+    let g = goes (at-loop .loop .t) (sym (at-goes-on .goes-on .ensures) ∙ at-if1 .if1 .taken) in
+    reached-ready (start .pre .1) (at-loop .loop .inv .0 (g .0))
 
-same-length-3 : tie.Need-same-length-3
-same-length-3 c = search needs
+sub-turns : tie.Need-sub-turns Inv-loop μ-loop
+sub-turns c = omega arith
 
-returns : tie.Need-returns
-returns c = search needs
+loop-less : tie.Need-loop-less Inv-loop μ-loop
+loop-less c = omega arith
+
+loop-again : tie.Need-loop-again Inv-loop μ-loop
+loop-again c =
+    let at-turn = c .before .before .before .before .before .before in
+    let at-if1 = at-turn .before .before .before .before .before in
+    let at-goes-on = at-if1 .before in
+    let at-loop = at-turn .before .before .before .before .before .before .before .before in
+    let g = goes (at-loop .loop .t) (sym (at-goes-on .goes-on .ensures) ∙ at-if1 .if1 .taken) in
+    let k = at-turn .turn .kept in
+    let i = at-loop .loop .inv .1 in (
+      λ e. at-turn .turn .ensures e (g .1) _ _ _ (at-loop .loop .inv .0 (g .0)),
+      (k .0 ∙ i .0, (k .1 .0 ∙ i .1 .0, k .1 .1 .0 ∙ i .1 .1)),
+    )
+
+same-length : tie.Need-same-length Inv-loop μ-loop
+same-length c = c .before .before .before .loop .inv .1 .0
+
+same-length-2 : tie.Need-same-length-2 Inv-loop μ-loop
+same-length-2 c = c .before .before .before .loop .inv .1 .1 .0
+
+same-length-3 : tie.Need-same-length-3 Inv-loop μ-loop
+same-length-3 c = c .before .before .before .loop .inv .1 .1 .1
+
+returns : tie.Need-returns Inv-loop μ-loop
+returns c = c .before .before .before .loop .inv .0
+
+same-length-4 : tie.Need-same-length-4 Inv-loop μ-loop
+same-length-4 c = c .before .loop .inv .1 .0
+
+same-length-5 : tie.Need-same-length-5 Inv-loop μ-loop
+same-length-5 c = c .before .loop .inv .1 .1 .0
+
+same-length-6 : tie.Need-same-length-6 Inv-loop μ-loop
+same-length-6 c = c .before .loop .inv .1 .1 .1
+
+returns-2 : tie.Need-returns-2 Inv-loop μ-loop
+returns-2 c = c .before .loop .inv .0
 
 pub print-log-spec : {M : Type 1} → statement M
 print-log-spec =
     tie.close
     (tie.spec
-    slice-relend-prefix-run-all
-    slice-aggregate-run-all
-    run-all-requires
-    finish-requires
+    Inv-loop
+    μ-loop
+    start-requires
+    loop-holds
+    goes-on-requires
+    turn-requires
+    sub-turns
+    loop-less
+    loop-again
     same-length
     same-length-2
     same-length-3
-    returns)
+    returns
+    same-length-4
+    same-length-5
+    same-length-6
+    returns-2)

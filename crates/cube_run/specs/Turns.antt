@@ -1,0 +1,21 @@
+-- A turn of the log program is a turn of a run: what it reads and writes is what the run is told.
+use Prim.Native.Nat.{ℕ}
+use mathlib.Core.Path.{_≡_}
+use mathlib.Core.Bool.{false}
+use mathlib.Core.List.{List}
+use Rattle.log_stream.specs.declared.Stream.{Stream}
+use Rattle.log_stream.specs.Streams.{took}
+use Rattle.log_stream.specs.Runs.{Given, Reached}
+use Rattle.cube_run.specs.declared.Progress.{Progress}
+
+-- a read of some n bytes into the window
+pub record Fed (s : Stream) (w : List ℕ) (t : Stream) (w′ : List ℕ) : Type 0 where
+  pub count : ℕ
+  pub given : Given s w count w′
+  pub stream : t ≡ took s count
+
+-- from a stream that a run reaches, and that has not ended, to one that it reaches next, unless a write failed
+abbrev pub Turned : Stream → List ℕ → List ℕ → List ℕ → Progress → List ℕ → List ℕ → List ℕ → Type 0
+Turned s r w out t r′ w′ out′ =
+    t .failed ≡ false → s .place .ended ≡ false → (b window output : List ℕ) → Reached b window output s r w out
+    → Reached b window output (t .stream) r′ w′ out′
