@@ -4,5 +4,6 @@ pub mod Parts
 pub mod Waits
 pub mod Running
 pub mod Fronts
+pub mod WrongFirst
 pub mod Theorem
 pub mod Once

@@ -1,11 +1,11 @@
--- After a right set-up a log prints what the history says of each frame, then the counts. Assumes nothing.
+-- What a log prints, for every input: after a right set-up what the history says of each frame, then the counts. Assumes nothing.
 use Prim.Native.Nat.{ℕ, _+_, _<_, _≤_, min}
 use mathlib.Core.Path.{_≡_, refl, sym, ap, _∙_}
 use mathlib.Core.Logic.{_≢_}
 use mathlib.Core.Bool.{true, false}
 use mathlib.Core.List.{List, [], _∷_, _++_}
 use native.Mathlib.Omega.{arith}
-use borrow.Author.Tests.{ne-eqb, eqb-true}
+use borrow.Author.Tests.{eq-eqb, ne-eqb, eqb-true}
 use lib.Dec.{eqb}
 use lib.ListN.{length, take, drop, length-append}
 use lib.Seq.{take-append-seam, drop-append-seam}
@@ -16,6 +16,7 @@ use Rattle.tally.specs.declared.Outcome.{Outcome}
 use Rattle.tally.specs.declared.Outcome.the-variants.{Setup, Done, Granted, Refused}
 use Rattle.tally.specs.declared.Tally.{Tally}
 use Rattle.tally.specs.Counts.{none, counted}
+use Rattle.lines.specs.Text.{totalsOf}
 use Rattle.cube.specs.Called.{setupRecord, callRecord, delivered}
 use Rattle.cube.specs.Run.{Exchanges, begin, _next_, replies, heard, recordAfter, number, reply}
 use Rattle.cube.proofs.Theorem.{heard-is, demand3}
@@ -26,11 +27,12 @@ use Rattle.log.specs.declared.Step.the-variants.{Line, More, End}
 use Rattle.log.specs.Next.{nextOf}
 use Rattle.log.specs.Frames.{firstNumber, firstRecord, readReply, zeros, laterOutcome, laterRecord}
 use Rattle.log.specs.Steps.{onFrame, onRecord, stepOf, stepRecord}
-use Rattle.log.proofs.Nexts.{word-append, next-whole}
+use Rattle.log.proofs.Nexts.{framed, word-append, next-none, next-whole}
 use Rattle.log.proofs.Firsts.{set-up}
 use Rattle.log_text.specs.Text.{Prints, ends, stops, goes}
 use Rattle.log_text.proofs.Waits.{never-more}
-use Rattle.log_text.specs.Right.{SetsUp, Whole, joined, told, calls, ending, outcomeBy, linesBy, LogRight}
+use Rattle.log_text.proofs.WrongFirst.{wrong-first}
+use Rattle.log_text.specs.Right.{SetsUp, Whole, joined, told, calls, ending, outcomeBy, linesBy, logBy, LogRight}
 
 -- ---- what is read from a number and a reply is what is heard
 
@@ -101,33 +103,28 @@ module _ (n : ℕ) (small : n ≤ 10) (b : List ℕ) (whole : length b ≡ 3088)
       read-heard (number delivered n b es (calls f)) (reply delivered n b es (calls f)) _ (heard-is n small b whole es (calls f))
       (demand3 n small b whole .calls es (calls f) .replied)
 
-  module _ (rest : List ℕ) (cut : (c : Cursor) → nextOf true 0 rest ≢ next.Frame c) where
-    by-next : (t : Tally) (r : List ℕ) → t .total ≢ 4294967295 → (e : Next) → nextOf true 0 rest ≡ e → e ≢ next.More → Prints t r rest (ending t e)
-    unfolding stepOf
-    by-next t r h (next.Frame c) e m = absurd (cut c e)
-    by-next t r h next.More e m = absurd (m refl)
-    by-next t r h next.End e m = ends t r rest (rw (ne-eqb (t .total) 4294967295 h, e))
-    by-next t r h next.Broken e m = stops t r rest (Refused 3 0) (rw (ne-eqb (t .total) 4294967295 h, e))
-
-    later-lines : (fs : List (List ℕ)) (t : Tally) (es : Exchanges) → Whole fs → t .total ≢ 0 → t .total + length fs < 4294967295
-        → Prints t (recordAfter delivered n b es) (joined fs rest) (linesBy n t es fs (nextOf true 0 rest))
-    later-lines [] t es w z h = by-next t (recordAfter delivered n b es) (λ e. omega arith) (nextOf true 0 rest) refl (never-more 0 rest)
+  -- the lines of the frames, up to m of them, and what is printed of the rest
+  module _ (rest : List ℕ) (e : Next) (m : ℕ) (few : m ≤ 4294967295)
+      (finish : (t : Tally) (r : List ℕ) → t .total ≡ m → Prints t r rest (ending t e)) where
+    later-lines : (fs : List (List ℕ)) (t : Tally) (es : Exchanges) → Whole fs → t .total ≢ 0 → t .total + length fs ≡ m
+        → Prints t (recordAfter delivered n b es) (joined fs rest) (linesBy n t es fs e)
+    later-lines [] t es w z h = finish t (recordAfter delivered n b es) (omega arith)
     later-lines (f ∷ fs) t es w z h =
         let more = joined fs rest in
         let r = recordAfter delivered n b es in
         let o = outcomeBy n es f in
-        let few : t .total ≢ 4294967295 = λ e. omega arith in
+        let below : t .total ≢ 4294967295 = λ k. omega arith in
         let up = total-more t o in
-        goes t r (f ++ more) o (record { at = 0 + length f }) (linesBy n (counted t o) (es next calls f) fs (nextOf true 0 rest))
-        (its-step (t .total) r f more (w .0 .0) (w .0 .1) few ∙ later-step (t .total) r f z ∙ ap
+        goes t r (f ++ more) o (record { at = 0 + length f }) (linesBy n (counted t o) (es next calls f) fs e)
+        (its-step (t .total) r f more (w .0 .0) (w .0 .1) below ∙ later-step (t .total) r f z ∙ ap
         (λ (u : Outcome). Line u (record { at = 0 + length f })) (later-told es f))
         (rw (
-          its-record (t .total) r f more (w .0 .0) (w .0 .1) few,
+          its-record (t .total) r f more (w .0 .0) (w .0 .1) below,
           later-record (t .total) r f z,
           its-rest (t .total) r f more (w .0 .0)
-              (w .0 .1) few,
+              (w .0 .1) below,
         )
-        (later-lines fs (counted t o) (es next calls f) (w .1) (λ e. omega arith) (omega arith)))
+        (later-lines fs (counted t o) (es next calls f) (w .1) (λ k. omega arith) (omega arith)))
 
   module _ (f : List ℕ) (S : SetsUp n f) where
     four : 4 ≤ length f
@@ -147,13 +144,38 @@ module _ (n : ℕ) (small : n ≤ 10) (b : List ℕ) (whole : length b ≡ 3088)
     unfolding onRecord firstRecord
     first-record = rw (accepted, S .dimension)
 
-pub log-right : (n : ℕ) → n ≤ 10 → LogRight n
-log-right n small b f fs rest whole S w cut few =
-    let never : _≢_ {A = ℕ} 0 4294967295 = λ e. omega arith in
-    let four = four n small b whole f S in
-    let right = right n small b whole f S in
-    let more = joined fs rest in
-    goes none b (f ++ more) (Setup n) (record { at = 0 + length f }) (linesBy n (counted none (Setup n)) begin fs (nextOf true 0 rest))
-    (its-step 0 b f more four right never ∙ first-step n small b whole f S)
-    (rw (its-record 0 b f more four right never, first-record n small b whole f S, its-rest 0 b f more four right never)
-    (later-lines n small b whole rest cut fs (counted none (Setup n)) begin w (λ e. omega arith) (omega arith)))
+  -- a right set-up, and m lines in all
+  set-up-lines : (f : List ℕ) (fs : List (List ℕ)) (rest : List ℕ) (e : Next) → SetsUp n f → Whole fs → length fs + 1 ≤ 4294967295
+      → ((t : Tally) (r : List ℕ) → t .total ≡ length fs + 1 → Prints t r rest (ending t e)) → Prints none b (f ++ joined fs rest) (logBy n fs e)
+  set-up-lines f fs rest e S w few finish =
+      let never : _≢_ {A = ℕ} 0 4294967295 = λ k. omega arith in
+      let more = joined fs rest in
+      goes none b (f ++ more) (Setup n) (record { at = 0 + length f }) (linesBy n (counted none (Setup n)) begin fs e)
+      (its-step 0 b f more (four f S) (right f S) never ∙ first-step f S)
+      (rw (its-record 0 b f more (four f S) (right f S) never, first-record f S, its-rest 0 b f more (four f S) (right f S) never)
+      (later-lines rest e (length fs + 1) few finish fs (counted none (Setup n)) begin w (λ k. omega arith) (omega arith)))
+
+-- ---- how the input ends
+
+by-next : (rest : List ℕ) → ((c : Cursor) → nextOf true 0 rest ≢ next.Frame c) → (t : Tally) (r : List ℕ) → t .total ≢ 4294967295
+    → (e : Next) → nextOf true 0 rest ≡ e → Prints t r rest (ending t e)
+unfolding stepOf
+by-next rest cut t r h (next.Frame c) e = absurd (cut c e)
+by-next rest cut t r h next.More e = absurd (never-more 0 rest e)
+by-next rest cut t r h next.End e = ends t r rest (rw (ne-eqb (t .total) 4294967295 h, e))
+by-next rest cut t r h next.Broken e = stops t r rest (Refused 3 0) (rw (ne-eqb (t .total) 4294967295 h, e))
+
+-- nothing is read any more
+at-ceiling : (rest : List ℕ) (t : Tally) (r : List ℕ) → t .total ≡ 4294967295 → Prints t r rest (totalsOf t)
+unfolding stepOf
+at-ceiling rest t r h = ends t r rest (rw (eq-eqb (t .total) 4294967295 h))
+
+pub log-right : (b : List ℕ) → length b ≡ 3088 → LogRight b
+log-right b whole = record {
+  empty = by-next [] (λ c e. let F = framed true 0 [] c (sym e) in omega (arith, F .two)) none b (λ k. omega arith) next.End (next-none true 0 [] refl);
+  wrong-first = λ l m W. wrong-first b whole l m W;
+  frames = λ n small f fs rest S w cut few.
+      set-up-lines n small b whole f fs rest (nextOf true 0 rest) S w (omega arith)
+      (λ t r k. by-next rest cut t r (λ q. omega arith) (nextOf true 0 rest) refl);
+  ceiling = λ n small f fs rest S w full. set-up-lines n small b whole f fs rest next.End S w (omega arith) (λ t r k. at-ceiling rest t r (k ∙ full));
+}

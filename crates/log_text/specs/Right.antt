@@ -1,4 +1,4 @@
--- A whole log. After a right set-up each frame's line is what the history says of it, and then come the counts.
+-- A whole log, for every input. After a right set-up each frame's line is what the history says of it, and then come the counts.
 use Prim.Native.Nat.{ℕ, _+_, _<_, _≤_}
 use mathlib.Core.Path.{_≡_}
 use mathlib.Core.Logic.{_≢_}
@@ -67,9 +67,29 @@ module _ (n : ℕ) where
   abbrev pub logBy : List (List ℕ) → Next → List ℕ
   logBy fs e = lineAfter none (Setup n) ++ linesBy (counted none (Setup n)) begin fs e
 
-  -- on any buffer of the record's size, with a right set-up first, and fewer frames than a log may have
-  abbrev pub LogRight : Type 0
-  LogRight =
-      (b f : List ℕ) (fs : List (List ℕ)) (rest : List ℕ) → length b ≡ 3088 → SetsUp n f → Whole fs → ((c : Cursor) → nextOf true 0 rest ≢ Frame c)
-      → length fs + 1 < 4294967295
-      → Prints none b (f ++ joined fs rest) (logBy fs (nextOf true 0 rest))
+-- a first frame that is whole
+abbrev pub WholeFirst : List ℕ → Type 0
+WholeFirst l = (4 ≤ word l 0) × (word l 0 ≤ length l)
+
+-- an input that doesn't begin with a right set-up, and the number of its refusal. 3: "A lone last byte, or a length under 4 or past the input's end";
+-- 4: another kind than a set-up's; 5: another length; 7: n above 10
+pub data Wrong (l : List ℕ) : ℕ → Type 0 where
+  lone : length l ≡ 1 → Wrong l 3
+  under : 1 < length l → word l 0 < 4 → Wrong l 3
+  past : 1 < length l → length l < word l 0 → Wrong l 3
+  kind : WholeFirst l → word l 2 ≢ 0x0301 → Wrong l 4
+  size : WholeFirst l → word l 2 ≡ 0x0301 → word l 0 ≢ 6 → Wrong l 5
+  dimension : WholeFirst l → word l 2 ≡ 0x0301 → word l 0 ≡ 6 → 10 < word l 4 → Wrong l 7
+
+-- on any buffer b of the record's size
+pub record LogRight (b : List ℕ) : Type 0 where
+  -- "empty input prints them alone"
+  pub empty : Prints none b [] (totalsOf none)
+  -- "A first frame that isn't a right set-up is refused with 3, 4, 5 or 7, tried 0, and stops", whatever follows it; "The counts always follow"
+  pub wrong-first : (l : List ℕ) (m : ℕ) → Wrong l m → Prints none b l (lineAfter none (Refused m 0) ++ totalsOf (counted none (Refused m 0)))
+  -- a right set-up first, then fewer frames than a log may have, and any end of the input
+  pub frames : (n : ℕ) → n ≤ 10 → (f : List ℕ) (fs : List (List ℕ)) (rest : List ℕ) → SetsUp n f → Whole fs
+      → ((c : Cursor) → nextOf true 0 rest ≢ Frame c) → length fs + 1 < 4294967295 → Prints none b (f ++ joined fs rest) (logBy n fs (nextOf true 0 rest))
+  -- "After 4294967295 frames it reads no further.": the counts follow, whatever is left of the input
+  pub ceiling : (n : ℕ) → n ≤ 10 → (f : List ℕ) (fs : List (List ℕ)) (rest : List ℕ) → SetsUp n f → Whole fs → length fs + 1 ≡ 4294967295
+      → Prints none b (f ++ joined fs rest) (logBy n fs End)
