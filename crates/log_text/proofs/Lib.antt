@@ -5,5 +5,6 @@ pub mod Waits
 pub mod Running
 pub mod Fronts
 pub mod WrongFirst
+pub mod Every
 pub mod Theorem
 pub mod Once

@@ -32,6 +32,7 @@ use Rattle.log.proofs.Firsts.{set-up}
 use Rattle.log_text.specs.Text.{Prints, ends, stops, goes}
 use Rattle.log_text.proofs.Waits.{never-more}
 use Rattle.log_text.proofs.WrongFirst.{wrong-first}
+use Rattle.log_text.proofs.Every.{parts}
 use Rattle.log_text.specs.Right.{SetsUp, Whole, joined, told, calls, ending, outcomeBy, linesBy, logBy, LogRight}
 
 -- ---- what is read from a number and a reply is what is heard
@@ -178,4 +179,5 @@ log-right b whole = record {
       set-up-lines n small b whole f fs rest (nextOf true 0 rest) S w (omega arith)
       (λ t r k. by-next rest cut t r (λ q. omega arith) (nextOf true 0 rest) refl);
   ceiling = λ n small f fs rest S w full. set-up-lines n small b whole f fs rest next.End S w (omega arith) (λ t r k. at-ceiling rest t r (k ∙ full));
+  every = parts;
 }

@@ -24,7 +24,7 @@ use Rattle.log.proofs.Firsts.{first-kind, first-size, set-up}
 use Rattle.log_text.specs.Text.{lineAfter, Prints, stops}
 use Rattle.log_text.specs.Right.{WholeFirst, Wrong, lone, under, past, kind, size, dimension}
 
-word-take : (k : ℕ) (l : List ℕ) (i : ℕ) → i + 1 < k → word (take k l) i ≡ word l i
+pub word-take : (k : ℕ) (l : List ℕ) (i : ℕ) → i + 1 < k → word (take k l) i ≡ word l i
 unfolding word
 word-take k l i h = rw (getD-take k l i 0 (omega arith), getD-take k l (i + 1) 0 h)
 

@@ -1,7 +1,7 @@
 -- A whole log, for every input. After a right set-up each frame's line is what the history says of it, and then come the counts.
 use Prim.Native.Nat.{ℕ, _+_, _<_, _≤_}
 use mathlib.Core.Path.{_≡_}
-use mathlib.Core.Logic.{_≢_}
+use mathlib.Core.Logic.{_≢_, _⊎_}
 use mathlib.Core.Bool.{true}
 use mathlib.Core.List.{List, [], _∷_, _++_}
 use lib.ListN.{length}
@@ -81,6 +81,16 @@ pub data Wrong (l : List ℕ) : ℕ → Type 0 where
   size : WholeFirst l → word l 2 ≡ 0x0301 → word l 0 ≢ 6 → Wrong l 5
   dimension : WholeFirst l → word l 2 ≡ 0x0301 → word l 0 ≡ 6 → 10 < word l 4 → Wrong l 7
 
+-- where the frames fs end: the rest has no whole frame, and they are fewer than a log may have beside its set-up; or a log may have no more
+abbrev pub Ends : List (List ℕ) → List ℕ → Type 0
+Ends fs rest = (((c : Cursor) → nextOf true 0 rest ≢ Frame c) × (length fs + 1 < 4294967295)) ⊎ (length fs + 1 ≡ 4294967295)
+
+-- an input has nothing, or begins wrong, or is a right set-up, frames and a rest
+pub data Parts (l : List ℕ) : Type 0 where
+  nothing : l ≡ [] → Parts l
+  wrong : (m : ℕ) → Wrong l m → Parts l
+  right : (n : ℕ) (f : List ℕ) (fs : List (List ℕ)) (rest : List ℕ) → n ≤ 10 → SetsUp n f → Whole fs → Ends fs rest → l ≡ f ++ joined fs rest → Parts l
+
 -- on any buffer b of the record's size
 pub record LogRight (b : List ℕ) : Type 0 where
   -- "empty input prints them alone"
@@ -93,3 +103,5 @@ pub record LogRight (b : List ℕ) : Type 0 where
   -- "After 4294967295 frames it reads no further.": the counts follow, whatever is left of the input
   pub ceiling : (n : ℕ) → n ≤ 10 → (f : List ℕ) (fs : List (List ℕ)) (rest : List ℕ) → SetsUp n f → Whole fs → length fs + 1 ≡ 4294967295
       → Prints none b (f ++ joined fs rest) (logBy n fs End)
+  -- and no input is left out
+  pub every : (l : List ℕ) → Parts l
