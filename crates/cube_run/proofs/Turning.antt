@@ -1,7 +1,7 @@
 -- A turn of the program is a turn of a run, by what was due. Assumes nothing.
 use Prim.Native.Nat.{ℕ, _≤_}
-use mathlib.Core.Path.{_≡_, refl, sym, subst}
-use mathlib.Core.Bool.{Bool, true, false, not, _&&_, false≢true}
+use mathlib.Core.Path.{_≡_, refl, sym, ap, subst, _∙_}
+use mathlib.Core.Bool.{Bool, true, false, not, _&&_, true≢false, false≢true}
 use mathlib.Core.List.{List, [], _++_}
 use native.Mathlib.Omega.{arith}
 use lib.Dec.{eqb}
@@ -11,12 +11,17 @@ use Rattle.log_stream.specs.Streams.{start, wrote, unwritten, Ready, Advanced}
 use Rattle.log_stream.specs.Runs.{piece, begins, reads, writes, Reached}
 use Rattle.log_stream.proofs.Theorem.{holds}
 use Rattle.cube_run.specs.declared.Progress.{Progress}
-use Rattle.cube_run.specs.Turns.{Fed}
+use Rattle.cube_run.specs.Turns.{Fed, afterWrite, Handed}
 
-module _ {s u t : Stream} {r w out r′ w′ out′ : List ℕ} (A : Advanced s r w out u r′ w′ out′) where
-  pub reached-read : {w″ : List ℕ} → u .place .waits ≡ true → Fed u w′ t w″ → s .place .ended ≡ false → (b window output : List ℕ)
+-- a write that didn't fail was made
+made : (u : Stream) (p : Progress) (written : Bool) → p ≡ afterWrite written u → p .failed ≡ false → p .stream ≡ wrote u
+made u p true e f = ap (λ (x : Progress). x .stream) e
+made u p false e f = absurd (true≢false (sym (ap (λ (x : Progress). x .failed) e) ∙ f))
+
+module _ {s u : Stream} {r w out r′ w′ out′ : List ℕ} (A : Advanced s r w out u r′ w′ out′) where
+  pub reached-read : {t : Stream} {w″ : List ℕ} → u .place .waits ≡ true → Fed u w′ t w″ → s .place .ended ≡ false → (b window output : List ℕ)
       → Reached b window output s r w out → Reached b window output t r′ w″ out′
-  reached-read {w″} k F on b window output R =
+  reached-read {w″ = w″} k F on b window output R =
       subst (λ (x : Stream). Reached b window output x r′ w″ out′) (sym (F .stream))
       (record {
         input = R .input ++ piece u (F .count) w″;
@@ -25,10 +30,10 @@ module _ {s u t : Stream} {r w out r′ w′ out′ : List ℕ} (A : Advanced s 
         run = reads (F .count) w″ (R .run) on A k (F .given);
       })
 
-  pub reached-write : u .place .waits ≡ false → t ≡ wrote u → s .place .ended ≡ false → (b window output : List ℕ)
-      → Reached b window output s r w out → Reached b window output t r′ w′ out′
-  reached-write k e on b window output R =
-      subst (λ (x : Stream). Reached b window output x r′ w′ out′) (sym e)
+  pub reached-write : {p : Progress} → u .place .waits ≡ false → Handed u p → p .failed ≡ false → s .place .ended ≡ false → (b window output : List ℕ)
+      → Reached b window output s r w out → Reached b window output (p .stream) r′ w′ out′
+  reached-write {p} k W f on b window output R =
+      subst (λ (x : Stream). Reached b window output x r′ w′ out′) (sym (made u p (W .written) (W .progress) f))
       (record { input = R .input; over = R .over; written = R .written ++ unwritten u out′; run = writes (R .run) on A k })
 
 pub reached-start : (b w out : List ℕ) (s : Stream) → s ≡ start → Reached b w out s b w out

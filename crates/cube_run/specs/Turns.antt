@@ -1,10 +1,10 @@
 -- A turn of the log program is a turn of a run: what it reads and writes is what the run is told.
 use Prim.Native.Nat.{ℕ}
 use mathlib.Core.Path.{_≡_}
-use mathlib.Core.Bool.{false}
+use mathlib.Core.Bool.{Bool, true, false}
 use mathlib.Core.List.{List}
 use Rattle.log_stream.specs.declared.Stream.{Stream}
-use Rattle.log_stream.specs.Streams.{took}
+use Rattle.log_stream.specs.Streams.{took, wrote}
 use Rattle.log_stream.specs.Runs.{Given, Reached}
 use Rattle.cube_run.specs.declared.Progress.{Progress}
 
@@ -13,6 +13,16 @@ pub record Fed (s : Stream) (w : List ℕ) (t : Stream) (w′ : List ℕ) : Type
   pub count : ℕ
   pub given : Given s w count w′
   pub stream : t ≡ took s count
+
+-- after a write, by whether it was made
+abbrev pub afterWrite : Bool → Stream → Progress
+afterWrite true s = record { stream = wrote s; failed = false }
+afterWrite false s = record { stream = s; failed = true }
+
+-- a write of what the stream tells, made or failed
+pub record Handed (s : Stream) (t : Progress) : Type 0 where
+  pub written : Bool
+  pub progress : t ≡ afterWrite written s
 
 -- from a stream that a run reaches, and that has not ended, to one that it reaches next, unless a write failed
 abbrev pub Turned : Stream → List ℕ → List ℕ → List ℕ → Progress → List ℕ → List ℕ → List ℕ → Type 0

@@ -7,9 +7,9 @@ ghost use mathlib.Core.Path.{_≡_};
 ghost use mathlib.Core.Bool.{false, not, _&&_};
 ghost use Prim.Native.Nat.{_≤_};
 ghost use lib.ListN.{length};
-ghost use Rattle.log_stream.specs.Streams.{wrote, Ready};
+ghost use Rattle.log_stream.specs.Streams.{Ready};
 ghost use Rattle.log_stream.specs.Runs.{Reached};
-ghost use Rattle.cube_run.specs.Turns.{Fed, Turned};
+ghost use Rattle.cube_run.specs.Turns.{Fed, afterWrite, Handed, Turned};
 
 // The record; a window on the input, where a frame has at most 65,535 bytes; and the output, lines to be written at once.
 const RECORD: usize = 3088;
@@ -24,35 +24,24 @@ struct Progress {
     failed: bool,
 }
 
-// How many bytes a read put into a buffer. A read that fails is told on standard error, and counts as the input's end.
-fn count_read(got: isize, buffer: &[u8]) -> usize
-    ensures { λ n. ⌜ n ≤ length (now (buffer .entry)) ⌝ }
-{
-    if got < 0 {
-        os::fail(b"read");
-        return 0;
-    }
-    io::count(got, buffer)
-}
-
-// One read into the part of the window that has no input yet.
+// One read into the part of the window that has no input yet. A read that fails is told on standard error, and counts as the input's end.
 fn read_more(window: &mut [u8], s: Stream) -> Stream
     requires { ⌜ s .filled ≤ length (now window) ⌝ }
     ensures { λ t. ⌜ Fed s (now (window .entry)) t (now (window .exit)) ⌝ }
 {
     let from = s.filled;
     let got = libc::read(STDIN_FILENO, &mut window[from..]);
-    let n = count_read(got, &window[from..]);
-    s.took(n)
+    if got < 0 {
+        os::fail(b"read");
+    }
+    s.took(io::count(got, &window[from..]))
 }
 
-// Writes what is to be written to standard output. A write that fails is told on standard error.
-fn write_out(out: &[u8], s: Stream) -> Progress
-    requires { ⌜ s .place .put ≤ length (now out) ⌝ }
-    ensures { λ t. ⌜ (t .failed ≡ false → t .stream ≡ wrote s) ⌝ }
+// Whether a write was made. One that fails is told on standard error, and nothing more is written.
+fn after_write(written: bool, s: Stream) -> Progress
+    ensures { λ t. ⌜ t ≡ afterWrite written s ⌝ }
 {
-    let is_written = io::write_all(STDOUT_FILENO, log_stream::to_write(out, s));
-    if !is_written {
+    if !written {
         os::fail(b"write");
         return Progress {
             stream: s,
@@ -63,6 +52,15 @@ fn write_out(out: &[u8], s: Stream) -> Progress
         stream: s.wrote(),
         failed: false,
     }
+}
+
+// One write of all that is to be written.
+fn write_out(out: &[u8], s: Stream) -> Progress
+    requires { ⌜ s .place .put ≤ length (now out) ⌝ }
+    ensures { λ t. ⌜ Handed s t ⌝ }
+{
+    let written = io::write_all(STDOUT_FILENO, log_stream::to_write(out, s));
+    after_write(written, s)
 }
 
 // One turn, and then the read or the write that is due.

@@ -18,17 +18,23 @@ part-read-end c = search needs
 read-requires : tie.Need-read-requires
 read-requires c κs = search needs
 
-sub-count-read : tie.Need-sub-count-read
-sub-count-read c = search needs
+slice-aggregate-fail : tie.Need-slice-aggregate-fail
+slice-aggregate-fail c = search needs
 
-part-count-read-start : tie.Need-part-count-read-start
-part-count-read-start c = search needs
+fail-requires : tie.Need-fail-requires
+fail-requires c κs = search needs
 
-part-count-read-end : tie.Need-part-count-read-end
-part-count-read-end c = search needs
+sub-count : tie.Need-sub-count
+sub-count c = search needs
 
-count-read-requires : tie.Need-count-read-requires
-count-read-requires c κs = search needs
+part-count-start : tie.Need-part-count-start
+part-count-start c = search needs
+
+part-count-end : tie.Need-part-count-end
+part-count-end c = search needs
+
+count-requires : tie.Need-count-requires
+count-requires c κs = search needs
 
 took-requires : tie.Need-took-requires
 took-requires c κs = search needs
@@ -38,12 +44,12 @@ same-length c = search needs
 
 returns : tie.Need-returns
 returns c =
-    let at-read = c .before .before .before .before .before .before in
+    let at-read = c .before .before .before .before .before .before .before in
     let start = at-read .before .before .before in
     let from = start .args .s .filled in
     let window = start .args .window .now in
     record {
-      count = c .before .count-read .result;
+      count = c .before .count .result;
       given = record {
         fits = search needs;
         kept = take-put from (length window - from) window (at-read .read .last .1 .0) (start .pre);
@@ -60,10 +66,12 @@ read-more-spec =
     part-read-start
     part-read-end
     read-requires
-    sub-count-read
-    part-count-read-start
-    part-count-read-end
-    count-read-requires
+    slice-aggregate-fail
+    fail-requires
+    sub-count
+    part-count-start
+    part-count-end
+    count-requires
     took-requires
     same-length
     returns)

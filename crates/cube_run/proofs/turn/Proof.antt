@@ -51,7 +51,7 @@ returns-2 : tie.Need-returns-2
 returns-2 c =
     let at-if1 = c .before .before in
     let at-advance = at-if1 .before .before .before .before .before .before .before .before in
-    λ e. reached-write (at-advance .advance .ensures) (at-if1 .if1 .left) (c .write-out .ensures e)
+    reached-write (at-advance .advance .ensures) (at-if1 .if1 .left) (c .write-out .ensures)
 
 pub turn-spec : {M : Type 1} → statement M
 turn-spec =
