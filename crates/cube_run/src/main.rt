@@ -1,5 +1,5 @@
-// The log program: document 01, "Log program". Frames come from standard input, lines and counts go to standard output. Where to read and what to write
-// is log_stream's; here are the buffers and the calls that read and write.
+// The log program: document 01, "Log program". Frames come from standard input, lines and counts go to standard output. Where to read and what to
+// write is log_stream's; here are the buffers and the calls that read and write.
 use libc::STDIN_FILENO;
 use libc::STDOUT_FILENO;
 use log_stream::Stream;
@@ -89,8 +89,8 @@ fn goes_on(t: Progress) -> bool
     if t.failed { false } else { !place.ended }
 }
 
-// Until the log has ended and is written, or a write has failed. Each turn but one reads or writes something, so a log of 2^64 turns would take longer
-// than anyone can wait.
+// Until the log has ended and is written, or a write has failed. Each turn but one reads or writes something, so a log of 2^64 turns would take
+// longer than anyone can wait.
 fn print_log(rec: &mut [u8], window: &mut [u8], out: &mut [u8]) -> Progress
     requires { ⌜ (65535 ≤ length (now window)) × (152 ≤ length (now out)) ⌝ }
     ensures { λ t. ⌜

@@ -1,9 +1,9 @@
 -- What a turn, a read and a write keep of a run: what was written, what is in the output and the text of what is left make the whole text.
 -- Assumes nothing.
-use Prim.Native.Nat.{ℕ, _+_, _-_, _<_, _≤_}
+use Prim.Native.Nat.{ℕ, _+_, _-_, _≤_}
 use mathlib.Core.Path.{_≡_, refl, sym, ap, _∙_}
 use mathlib.Core.Bool.{Bool, true, false, true≢false, false≢true}
-use mathlib.Core.List.{List, [], _++_, append-assoc, append-nil}
+use mathlib.Core.List.{List, [], _++_, append-assoc}
 use native.Mathlib.Omega.{arith}
 use lib.Dec.{eqb}
 use lib.ListN.{length, take, drop, length-append}
@@ -17,9 +17,9 @@ use Rattle.log_text.specs.declared.Place.{Place}
 use Rattle.log_text.specs.Text.{Prints}
 use Rattle.log_text.specs.Moves.{Left, Ran}
 use Rattle.log_stream.specs.declared.Stream.{Stream}
-use Rattle.log_stream.specs.Streams.{start, took, wrote, unwritten, room, Ready, Closed, Wanting, Full, Due, Advanced}
+use Rattle.log_stream.specs.Streams.{start, took, wrote, unwritten, room, Ready, Closed, Wanting}
 use Rattle.log_stream.specs.Runs.{Given, piece}
-use Rattle.log_stream.proofs.Turns.{filled-long, room-long, at-kept, put-kept, long}
+use Rattle.log_stream.proofs.Turns.{room-long, at-kept, put-kept, long}
 
 -- ---- lists
 
@@ -59,7 +59,8 @@ holds-start b w out h = record {
 -- ---- a turn
 
 module _ {b input : List ℕ} {over : Bool} {written : List ℕ} {s : Stream} {r w out : List ℕ} (H : Holds b input over written s r w out)
-    (on : s .place .ended ≡ false) (q : Place) (r′ put : List ℕ) (A : Ran (take (s .filled) w) (s .last) (s .place) r (take (room out) out) q r′ put) where
+    (on : s .place .ended ≡ false) (q : Place) (r′ put : List ℕ)
+    (A : Ran (take (s .filled) w) (s .last) (s .place) r (take (room out) out) q r′ put) where
   -- the output after the lines
   abbrev lined : List ℕ
   lined = put ++ drop (room out) out

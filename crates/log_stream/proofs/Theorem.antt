@@ -129,21 +129,23 @@ over-one : (b : Bool) → cond b 1 0 ≤ 1
 over-one true = omega arith
 over-one false = omega arith
 
-module _ (b window output : List ℕ) (large : 65535 ≤ length window) (wide : 152 ≤ length output) where
-  begun : {input : List ℕ} {over : Bool} {written : List ℕ} {s : Stream} {r w out : List ℕ} → Holds b input over written s r w out
-      → (left : List ℕ) → (over ≡ true → left ≡ []) → Begun b (input ++ left) written
-  begun {input} {over} {written} {s} {r} {w} {out} H left end =
-      cases (s .place .ended) (λ e. record { more = []; prints = rw (append-nil written) (H .done e left end) }) (λ e.
-      let P = prints-some (s .place .tally) r (drop (s .place .at) (take (s .filled) w) ++ left) in
-      record { more = unwritten s out ++ P .text; prints = H .goes e left (P .text) end (P .prints) }
-      )
+begun : {b input : List ℕ} {over : Bool} {written : List ℕ} {s : Stream} {r w out : List ℕ} → Holds b input over written s r w out
+    → (left : List ℕ) → (over ≡ true → left ≡ []) → Begun b (input ++ left) written
+begun {written = written} {s} {r} {w} {out} H left end =
+    cases (s .place .ended) (λ e. record { more = []; prints = rw (append-nil written) (H .done e left end) }) (λ e.
+    let P = prints-some (s .place .tally) r (drop (s .place .at) (take (s .filled) w) ++ left) in
+    record { more = unwritten s out ++ P .text; prints = H .goes e left (P .text) end (P .prints) }
+    )
 
-  pub run-right : RunRight b window output
-  run-right = record {
-    text = λ R e left end. holds (omega arith) R .done e left end;
-    begun = λ R left end. begun (holds (omega arith) R) left end;
-    ready = λ R. holds (omega arith) R .ready;
-    asked = λ R on bytes A k.
-        let D = read A k in omega (arith, read-short (holds (omega arith) R) A D bytes, read-long (holds (omega arith) R .ready) A D .0, kept (omega arith) R .0);
-    moves = λ {over = over} R. omega (arith, moved (omega arith) R, over-one over);
-  }
+pub run-right : {b window output input : List ℕ} {over : Bool} {written : List ℕ} {s : Stream} {r w out : List ℕ}
+    → 65535 ≤ length window → 152 ≤ length output → (R : Run b window output input over written s r w out) → RunRight R
+run-right {over = over} large wide R =
+    let H = holds (omega arith) R in
+    record {
+      text = λ e left end. H .done e left end;
+      begun = λ left end. begun H left end;
+      ready = H .ready;
+      asked = λ on bytes A k.
+          let D = read A k in omega (arith, read-short H A D bytes, read-long (H .ready) A D .0, kept (omega arith) R .0);
+      moves = omega (arith, moved (omega arith) R, over-one over);
+    }

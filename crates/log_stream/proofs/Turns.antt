@@ -1,5 +1,5 @@
 -- One turn keeps its places in the buffers, and is what its contract says by what is due. Assumes nothing.
-use Prim.Native.Nat.{ℕ, _+_, _-_, _≤_}
+use Prim.Native.Nat.{ℕ, _+_, _≤_}
 use mathlib.Core.Path.{_≡_, refl, sym, subst}
 use mathlib.Core.Bool.{Bool, true, false}
 use mathlib.Core.List.{List, _++_}
@@ -9,7 +9,7 @@ use lib.Seq.{length-take-le, length-front}
 use Rattle.log_text.specs.declared.Place.{Place}
 use Rattle.log_text.specs.Moves.{Ran}
 use Rattle.log_stream.specs.declared.Stream.{Stream}
-use Rattle.log_stream.specs.Streams.{room, Ready, Closed, Wanting, Full, Due, Advanced}
+use Rattle.log_stream.specs.Streams.{room, Ready, Closed, Wanting, Due, Advanced}
 
 module _ (s : Stream) (r w out : List ℕ) (q : Place) (r′ put : List ℕ) (R : Ready s (length w) (length out))
     (A : Ran (take (s .filled) w) (s .last) (s .place) r (take (room out) out) q r′ put) where

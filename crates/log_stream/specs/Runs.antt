@@ -20,9 +20,9 @@ pub record Given (t : Stream) (w : List ℕ) (n : ℕ) (w′ : List ℕ) : Type 
 abbrev pub piece : Stream → ℕ → List ℕ → List ℕ
 piece t n w′ = take n (drop (t .filled) w′)
 
--- the runs on a record b, a window and an output: `input` is what all reads gave, one after the other, `over` says that the last one gave nothing,
--- and `written` is what all writes took; then the stream, the record, the window and the output. After each turn comes the read that it waits for,
--- or the write of what is in the output
+-- the runs on a record b, a window and an output: `input` is what all reads gave, one after the other, `over` says that the last one gave
+-- nothing, and `written` is what all writes took; then the stream, the record, the window and the output. After each turn comes the read that it
+-- waits for, or the write of what is in the output. A stream that has ended takes no more turns
 pub data Run (b window output : List ℕ) : (input : List ℕ) (over : Bool) (written : List ℕ) (s : Stream) (r w out : List ℕ) → Type 0 where
   begins : Run b window output [] false [] start b window output
   reads : {input : List ℕ} {over : Bool} {written : List ℕ} {s t : Stream} {r w out r′ w′ out′ : List ℕ} (n : ℕ) (w″ : List ℕ)
@@ -51,22 +51,18 @@ pub record Begun (b input written : List ℕ) : Type 0 where
   pub more : List ℕ
   pub prints : Prints none b input (written ++ more)
 
--- what is claimed of every run
-pub record RunRight (b window output : List ℕ) : Type 0 where
+-- what is claimed of every run R
+pub record RunRight {b window output input : List ℕ} {over : Bool} {written : List ℕ} {s : Stream} {r w out : List ℕ}
+    (R : Run b window output input over written s r w out) : Type 0 where
   -- once the log has ended, what was written is the text of the whole input, whatever pieces it came in: of what was read and of what is left of it.
   -- Where a read gave nothing, nothing is left
-  pub text : {input : List ℕ} {over : Bool} {written : List ℕ} {s : Stream} {r w out : List ℕ} → Run b window output input over written s r w out
-      → s .place .ended ≡ true → (left : List ℕ) → (over ≡ true → left ≡ []) → Prints none b (input ++ left) written
+  pub text : s .place .ended ≡ true → (left : List ℕ) → (over ≡ true → left ≡ []) → Prints none b (input ++ left) written
   -- until then it is the beginning of that text
-  pub begun : {input : List ℕ} {over : Bool} {written : List ℕ} {s : Stream} {r w out : List ℕ} → Run b window output input over written s r w out
-      → (left : List ℕ) → (over ≡ true → left ≡ []) → Begun b (input ++ left) written
+  pub begun : (left : List ℕ) → (over ≡ true → left ≡ []) → Begun b (input ++ left) written
   -- the next turn may be taken
-  pub ready : {input : List ℕ} {over : Bool} {written : List ℕ} {s : Stream} {r w out : List ℕ} → Run b window output input over written s r w out
-      → Ready s (length w) (length out)
-  -- a read is never asked for no bytes: it gives none only at the input's end
-  pub asked : {input : List ℕ} {over : Bool} {written : List ℕ} {s t : Stream} {r w out r′ w′ out′ : List ℕ}
-      → Run b window output input over written s r w out → s .place .ended ≡ false → ((i : ℕ) → getD w i 0 < 256) → Advanced s r w out t r′ w′ out′ → t .place .waits ≡ true
-      → t .filled < length w′
+  pub ready : Ready s (length w) (length out)
+  -- where the window's entries are bytes, a read is never asked for no bytes: it gives none only at the input's end
+  pub asked : s .place .ended ≡ false → ((i : ℕ) → getD w i 0 < 256) → {t : Stream} {r′ w′ out′ : List ℕ} → Advanced s r w out t r′ w′ out′
+      → t .place .waits ≡ true → t .filled < length w′
   -- each turn but one reads or writes something
-  pub moves : {input : List ℕ} {over : Bool} {written : List ℕ} {s : Stream} {r w out : List ℕ} → (R : Run b window output input over written s r w out)
-      → turns R ≤ length input + length written + 1
+  pub moves : turns R ≤ length input + length written + 1

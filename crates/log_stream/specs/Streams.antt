@@ -73,8 +73,8 @@ Due true waits s p w out t w′ out′ = Closed s p out t out′ × (w′ ≡ w)
 Due false true s p w out t w′ out′ = Wanting s p w t w′ × (out′ ≡ out)
 Due false false s p w out t w′ out′ = Full s p w out t w′ out′
 
--- one turn: from the stream s to the stream t, with the record, the window and the output before and after. The log goes on in the window as far as it
--- can, up to the place `stop`, and puts its lines into the part of the output that is for lines; then something is due
+-- one turn: from the stream s to the stream t, with the record, the window and the output before and after. The log goes on in the window as far
+-- as it can, up to the place `stop`, and puts its lines into the part of the output that is for lines; then something is due
 pub record Advanced (s : Stream) (r w out : List ℕ) (t : Stream) (r′ w′ out′ : List ℕ) : Type 0 where
   pub stop : Place
   pub put : List ℕ

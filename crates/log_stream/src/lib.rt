@@ -3,7 +3,7 @@ use log_text::Place;
 ghost use mathlib.Core.Path.{_≡_};
 ghost use mathlib.Core.Bool.{true, false};
 ghost use Prim.Native.Nat.{_+_, _-_, _<_, _≤_, _^_};
-ghost use lib.ListN.{length, take};
+ghost use lib.ListN.{length};
 ghost use Rattle.log_stream.specs.Streams.{start, took, wrote, unwritten, Ready, Closed, Wanting, Advanced};
 
 // The last bytes of an output are kept for the counts.

@@ -93,7 +93,8 @@ parts (x ∷ xs) = go (case l)
         cases (eqb (word l 0) 6) (λ b.
         cases (leb (word l 4) 10)
         (λ c.
-        later l f h (eqb-true (word l 2) 0x0301 a) (eqb-true (word l 0) 6 b) (leb-true (word l 4) 10 c) 4294967294 (omega arith) (split 4294967294 (drop 6 l)))
+        later l f h (eqb-true (word l 2) 0x0301 a) (eqb-true (word l 0) 6 b) (leb-true (word l 4) 10 c) 4294967294 (omega arith)
+        (split 4294967294 (drop 6 l)))
         (λ c. wrong 7 (dimension (f, h) (eqb-true (word l 2) 0x0301 a) (eqb-true (word l 0) 6 b) (leb-false (word l 4) 10 c)))
         ) (λ b. wrong 5 (size (f, h) (eqb-true (word l 2) 0x0301 a) (eqb-false (word l 0) 6 b)))
         ) (λ a. wrong 4 (kind (f, h) (eqb-false (word l 2) 0x0301 a)))

@@ -1,5 +1,5 @@
 -- What a log prints, for every input: after a right set-up what the history says of each frame, then the counts. Assumes nothing.
-use Prim.Native.Nat.{ℕ, _+_, _<_, _≤_, min}
+use Prim.Native.Nat.{ℕ, _+_, _≤_, min}
 use mathlib.Core.Path.{_≡_, refl, sym, ap, _∙_}
 use mathlib.Core.Logic.{_≢_}
 use mathlib.Core.Bool.{true, false}
@@ -173,7 +173,8 @@ at-ceiling rest t r h = ends t r rest (rw (eq-eqb (t .total) 4294967295 h))
 
 pub log-right : (b : List ℕ) → length b ≡ 3088 → LogRight b
 log-right b whole = record {
-  empty = by-next [] (λ c e. let F = framed true 0 [] c (sym e) in omega (arith, F .two)) none b (λ k. omega arith) next.End (next-none true 0 [] refl);
+  empty =
+      by-next [] (λ c e. omega (arith, framed true 0 [] c (sym e) .two)) none b (λ k. omega arith) next.End (next-none true 0 [] refl);
   wrong-first = λ l m W. wrong-first b whole l m W;
   frames = λ n small f fs rest S w cut few.
       set-up-lines n small b whole f fs rest (nextOf true 0 rest) S w (omega arith)

@@ -89,7 +89,8 @@ Ends fs rest = (((c : Cursor) → nextOf true 0 rest ≢ Frame c) × (length fs 
 pub data Parts (l : List ℕ) : Type 0 where
   nothing : l ≡ [] → Parts l
   wrong : (m : ℕ) → Wrong l m → Parts l
-  right : (n : ℕ) (f : List ℕ) (fs : List (List ℕ)) (rest : List ℕ) → n ≤ 10 → SetsUp n f → Whole fs → Ends fs rest → l ≡ f ++ joined fs rest → Parts l
+  right : (n : ℕ) (f : List ℕ) (fs : List (List ℕ)) (rest : List ℕ) → n ≤ 10 → SetsUp n f → Whole fs → Ends fs rest → l ≡ f ++ joined fs rest
+      → Parts l
 
 -- on any buffer b of the record's size
 pub record LogRight (b : List ℕ) : Type 0 where
@@ -99,7 +100,8 @@ pub record LogRight (b : List ℕ) : Type 0 where
   pub wrong-first : (l : List ℕ) (m : ℕ) → Wrong l m → Prints none b l (lineAfter none (Refused m 0) ++ totalsOf (counted none (Refused m 0)))
   -- a right set-up first, then fewer frames than a log may have, and any end of the input
   pub frames : (n : ℕ) → n ≤ 10 → (f : List ℕ) (fs : List (List ℕ)) (rest : List ℕ) → SetsUp n f → Whole fs
-      → ((c : Cursor) → nextOf true 0 rest ≢ Frame c) → length fs + 1 < 4294967295 → Prints none b (f ++ joined fs rest) (logBy n fs (nextOf true 0 rest))
+      → ((c : Cursor) → nextOf true 0 rest ≢ Frame c) → length fs + 1 < 4294967295
+      → Prints none b (f ++ joined fs rest) (logBy n fs (nextOf true 0 rest))
   -- "After 4294967295 frames it reads no further.": the counts follow, whatever is left of the input
   pub ceiling : (n : ℕ) → n ≤ 10 → (f : List ℕ) (fs : List (List ℕ)) (rest : List ℕ) → SetsUp n f → Whole fs → length fs + 1 ≡ 4294967295
       → Prints none b (f ++ joined fs rest) (logBy n fs End)
