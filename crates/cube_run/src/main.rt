@@ -4,12 +4,11 @@ use libc::STDIN_FILENO;
 use libc::STDOUT_FILENO;
 use log_stream::Stream;
 ghost use mathlib.Core.Path.{_≡_};
-ghost use mathlib.Core.Bool.{false, not, _&&_};
+ghost use mathlib.Core.Bool.{not, _&&_};
 ghost use Prim.Native.Nat.{_≤_};
 ghost use lib.ListN.{length};
 ghost use Rattle.log_stream.specs.Streams.{Ready};
-ghost use Rattle.log_stream.specs.Runs.{Reached};
-ghost use Rattle.cube_run.specs.Turns.{Fed, afterWrite, Handed, Turned};
+ghost use Rattle.cube_run.specs.Turns.{Fed, afterWrite, Handed, Turned, Printed};
 
 // The record; a window on the input, where a frame has at most 65,535 bytes; and the output, lines to be written at once.
 const RECORD: usize = 3088;
@@ -94,8 +93,7 @@ fn goes_on(t: Progress) -> bool
 fn print_log(rec: &mut [u8], window: &mut [u8], out: &mut [u8]) -> Progress
     requires { ⌜ (65535 ≤ length (now window)) × (152 ≤ length (now out)) ⌝ }
     ensures { λ t. ⌜
-        (t .failed ≡ false → Reached (now (rec .entry)) (now (window .entry)) (now (out .entry)) (t .stream) (now (rec .exit)) (now (window .exit))
-        (now (out .exit)))
+        Printed (now (rec .entry)) (now (window .entry)) (now (out .entry)) t (now (rec .exit)) (now (window .exit)) (now (out .exit))
         ⌝ }
 {
     let mut t = Progress {

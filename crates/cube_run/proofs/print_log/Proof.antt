@@ -3,14 +3,13 @@ use mathlib.Core.Path.{_≡_, refl, sym, _∙_}
 use mathlib.Core.Bool.{false}
 use native.Mathlib.Omega.{arith}
 use lib.ListN.{length}
-use Rattle.log_stream.specs.Runs.{Reached}
-use Rattle.cube_run.proofs.Turning.{reached-start, reached-ready, goes}
+use Rattle.cube_run.proofs.Turning.{Going, going-start, going-ready, going-more, finished-ended, finished-count, goes, stops}
 use Rattle.cube_run.proofs.print_log.Statement.{statement}
 use Rattle.cube_run.proofs.print_log.Tie as tie
 
 abbrev Inv-loop : tie.InvT-loop
 Inv-loop rec₀ window₀ out₀ t₀ turns₀ rec window out t turns =
-    (t .failed ≡ false → Reached rec₀ window₀ out₀ (t .stream) rec window out) ×
+    (t .failed ≡ false → Going rec₀ window₀ out₀ (t .stream) rec window out turns) ×
     ((length rec ≡ length rec₀) × ((length window ≡ length window₀) × (length out ≡ length out₀)))
 
 abbrev μ-loop : tie.MeasureT-loop
@@ -20,7 +19,7 @@ start-requires : tie.Need-start-requires Inv-loop μ-loop
 start-requires c κs = tt
 
 loop-holds : tie.Need-loop-holds Inv-loop μ-loop
-loop-holds c = (λ e. reached-start _ _ _ _ (c .start .ensures), (refl, (refl, refl)))
+loop-holds c = (λ e. going-start _ _ _ _ (c .start .ensures), (refl, (refl, refl)))
 
 goes-on-requires : tie.Need-goes-on-requires Inv-loop μ-loop
 goes-on-requires c κs = tt
@@ -32,7 +31,7 @@ turn-requires c κs =
     let at-loop = c .before .before .before .before .before .before .before in
     let start = at-loop .before .before .before .before .before in
     let g = goes (at-loop .loop .t) (sym (at-goes-on .goes-on .ensures) ∙ at-if1 .if1 .taken) in
-    reached-ready (start .pre .1) (at-loop .loop .inv .0 (g .0))
+    going-ready (at-loop .loop .inv .0 (g .0)) (start .pre .1)
 
 sub-turns : tie.Need-sub-turns Inv-loop μ-loop
 sub-turns c = omega arith
@@ -49,7 +48,8 @@ loop-again c =
     let g = goes (at-loop .loop .t) (sym (at-goes-on .goes-on .ensures) ∙ at-if1 .if1 .taken) in
     let k = at-turn .turn .kept in
     let i = at-loop .loop .inv .1 in (
-      λ e. at-turn .turn .ensures e (g .1) _ _ _ (at-loop .loop .inv .0 (g .0)),
+      λ e.
+          let G = at-loop .loop .inv .0 (g .0) in going-more G (omega arith) (at-turn .turn .ensures e (g .1) _ _ _ (G .reached)),
       (k .0 ∙ i .0, (k .1 .0 ∙ i .1 .0, k .1 .1 .0 ∙ i .1 .1)),
     )
 
@@ -63,7 +63,9 @@ same-length-3 : tie.Need-same-length-3 Inv-loop μ-loop
 same-length-3 c = c .before .before .before .loop .inv .1 .1 .1
 
 returns : tie.Need-returns Inv-loop μ-loop
-returns c = c .before .before .before .loop .inv .0
+returns c = λ e.
+    let at-loop = c .before .before .before in
+    finished-ended (at-loop .loop .inv .0 e) (stops (at-loop .loop .t) (sym (c .before .goes-on .ensures) ∙ c .if1 .left) e)
 
 same-length-4 : tie.Need-same-length-4 Inv-loop μ-loop
 same-length-4 c = c .before .loop .inv .1 .0
@@ -75,7 +77,10 @@ same-length-6 : tie.Need-same-length-6 Inv-loop μ-loop
 same-length-6 c = c .before .loop .inv .1 .1 .1
 
 returns-2 : tie.Need-returns-2 Inv-loop μ-loop
-returns-2 c = c .before .loop .inv .0
+returns-2 c = λ e.
+    let at-loop = c .before in
+    let start = at-loop .before .before .before .before .before in
+    finished-count (at-loop .loop .inv .0 e) (start .pre .0) (start .pre .1) (omega arith)
 
 pub print-log-spec : {M : Type 1} → statement M
 print-log-spec =
