@@ -6,7 +6,9 @@ use mathlib.Core.Bool.{Bool, true, false, not, _&&_, true≢false, false≢true}
 use mathlib.Core.List.{List, [], _++_}
 use native.Mathlib.Omega.{arith}
 use lib.Dec.{eqb}
-use lib.ListN.{length}
+use lib.IntN.{ℤ, pos, negsuc}
+use lib.ListN.{length, take, drop, length-take}
+use Rattle.io.specs.Counts.{clamped}
 use Rattle.log_stream.specs.declared.Stream.{Stream}
 use Rattle.log_stream.specs.Streams.{start, wrote, unwritten, Ready, Advanced}
 use Rattle.log_stream.specs.Runs.{piece, begins, reads, writes, Reached, turns}
@@ -18,6 +20,16 @@ use Rattle.cube_run.specs.Turns.{Fed, afterWrite, Handed, OneMore, Finis
 made : (u : Stream) (p : Progress) (written : Bool) → p ≡ afterWrite written u → p .failed ≡ false → p .stream ≡ wrote u
 made u p true e f = ap (λ (x : Progress). x .stream) e
 made u p false e f = absurd (true≢false (sym (ap (λ (x : Progress). x .failed) e) ∙ f))
+
+-- as many bytes as a read can put into the part of a window from a place on
+pub clamped-fits : (from : ℕ) (window w : List ℕ) (z : ℤ) → length w ≡ length window → from ≤ length window
+    → from + clamped z (length (take (length w - from) (drop from w))) ≤ length window
+clamped-fits from window w z same h =
+    omega (arith, clamped-le z (length (take (length w - from) (drop from w))), length-take (length w - from) (drop from w), same)
+  where
+    clamped-le : (z : ℤ) (most : ℕ) → clamped z most ≤ most
+    clamped-le (pos k) most = omega arith
+    clamped-le (negsuc k) most = omega arith
 
 module _ {s u : Stream} {r w out r′ w′ out′ : List ℕ} (A : Advanced s r w out u r′ w′ out′) where
   pub reached-read : {t : Stream} {w″ : List ℕ} → u .place .waits ≡ true → Fed u w′ t w″ → s .place .ended ≡ false → (b window output : List ℕ)

@@ -5,9 +5,10 @@ use libc::STDOUT_FILENO;
 use log_stream::Stream;
 ghost use mathlib.Core.Path.{_≡_};
 ghost use mathlib.Core.Bool.{not, _&&_};
-ghost use Prim.Native.Nat.{_≤_};
+ghost use Prim.Native.Nat.{_+_, _<_, _≤_, _^_};
 ghost use lib.ListN.{length};
-ghost use Rattle.log_stream.specs.Streams.{Ready};
+ghost use Rattle.io.specs.Counts.{clamped};
+ghost use Rattle.log_stream.specs.Streams.{took, Ready};
 ghost use Rattle.cube_run.specs.Turns.{Fed, afterWrite, Handed, Turned, Printed};
 
 // The record; a window on the input, where a frame has at most 65,535 bytes; and the output, lines to be written at once.
@@ -23,17 +24,26 @@ struct Progress {
     failed: bool,
 }
 
-// One read into the part of the window that has no input yet. A read that fails is told on standard error, and counts as the input's end.
+// What a read into a part of the window answered: how many bytes it put there. A read that fails is told on standard error, and counts as the
+// input's end.
+fn after_read(got: isize, part: &[u8], s: Stream) -> Stream
+    requires { ⌜ s .filled + length (now part) < 2 ^ 64 ⌝ }
+    ensures { λ t. ⌜ t ≡ took s (clamped got (length (now (part .entry)))) ⌝ }
+{
+    if got < 0 {
+        os::fail(b"read");
+    }
+    s.took(io::count(got, part))
+}
+
+// One read into the part of the window that has no input yet.
 fn read_more(window: &mut [u8], s: Stream) -> Stream
     requires { ⌜ s .filled ≤ length (now window) ⌝ }
     ensures { λ t. ⌜ Fed s (now (window .entry)) t (now (window .exit)) ⌝ }
 {
     let from = s.filled;
     let got = libc::read(STDIN_FILENO, &mut window[from..]);
-    if got < 0 {
-        os::fail(b"read");
-    }
-    s.took(io::count(got, &window[from..]))
+    after_read(got, &window[from..], s)
 }
 
 // Whether a write was made. One that fails is told on standard error, and nothing more is written.
