@@ -51,7 +51,8 @@ pub record Closed (s : Stream) (p : Place) (out : List ℕ) (t : Stream) (out′
     last = s .last;
   }
 
--- more of the input is wanted at the place p: the input from there on is at the window's front, and a read is due behind it
+-- more of the input is wanted at the place p: the input from there on is at the window's front, and a read is due behind it, over whatever stands
+-- there
 pub record Wanting (s : Stream) (p : Place) (w : List ℕ) (t : Stream) (w′ : List ℕ) : Type 0 where
   pub front : take (t .filled) w′ ≡ take (t .filled) (drop (p .at) w)
   pub long : length w′ ≡ length w

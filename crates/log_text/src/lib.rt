@@ -111,7 +111,7 @@ pub fn run(rec: &mut [u8], window: &[u8], last: bool, out: &mut [u8], p: Place) 
     q
 }
 
-// Moves `count` bytes of a window from place `at` on to its front.
+// Moves `count` bytes of a window from place `at` on to its front. What stands behind them is no input, and nothing is promised of it.
 pub fn to_front(window: &mut [u8], at: usize, count: usize)
     requires { ⌜ at + count ≤ length (now window) ⌝ }
     ensures { λ _. ⌜ take count (now (window .exit)) ≡ take count (drop at (now (window .entry))) ⌝ }
