@@ -7,6 +7,7 @@ pub mod Lists
 pub mod Filled
 pub mod Pigeonhole
 pub mod Vertices
+pub mod Halves
 pub mod Labels
 pub mod Relabels
 pub mod Moved
