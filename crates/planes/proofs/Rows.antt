@@ -69,7 +69,8 @@ module _ (f : ℕ → Bool) (bs : List ℕ) (E : Empty bs) (n : ℕ) (w : n ≤ 
   empty-none d e l first a h F =
       let q : d + (e - d) ≡ e = omega arith in
       let G : Folded f (tops n e) bs = subst (λ (z : ℕ). Folded f (tops n z) bs) q (empty-tops (e - d) d (omega arith) F) in
-      rows-none f bs n e l h w (bottom-end {bs = bs} (bottom-empty l (omega arith) E (bottom-start (tops-low n e l (omega arith)) G))) first (λ i b c. empty-pair bs E i)
+      let B = bottom-empty {bs = bs} l (omega arith) E (bottom-start (tops-low n e l (omega arith)) G) in
+      rows-none f bs n e l h w (bottom-end B) first (λ i b c. empty-pair bs E i)
 
 -- ---- the mask
 

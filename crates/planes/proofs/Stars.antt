@@ -32,17 +32,18 @@ both-bits (suc (suc a)) b ha hb = absurd (omega arith)
 in-both : (a b i : ℕ) → eqb (bit (bitAnd a b) i) 1 ≡ eqb (bit a i) 1 && eqb (bit b i) 1
 in-both a b i = ap (λ (z : ℕ). eqb z 1) (bit-and a b i) ∙ both-bits (bit a i) (bit b i) (omega arith) (omega arith)
 
-in-three : (a b c i : ℕ) → eqb (bit (bitAnd (bitAnd a b) c) i) 1 ≡ (eqb (bit a i) 1 && eqb (bit b i) 1) && eqb (bit c i) 1
-in-three a b c i = in-both (bitAnd a b) c i ∙ ap (λ (t : Bool). t && eqb (bit c i) 1) (in-both a b i)
-
 -- a number has the bit 2^i where its bit i is 1
 one-bit : (e i : ℕ) → bitAnd e (2 ^ i) ≡ bit e i * 2 ^ i
 one-bit e i = let q : 2 ^ (1 + i) - 2 ^ i ≡ 2 ^ i = omega (arith, pow-add 2 1 i) in ap (bitAnd e) (sym q) ∙ and-high e 1 i
 
--- the mask c keeps what is kept, and leaves nothing else
-masked : (a b c : Bool) (b′ : Bool) → c ≡ b → (b ≡ true → a ≡ b′) → a && c ≡ b && b′
-masked a true c b′ e h = rw (e, h refl, and-true b′)
-masked a false c b′ e h = rw (e, and-false a)
+-- of a and b at bit i, what the mask c keeps: t tells whether it does, and u is then b's bit
+masked : (a b c i : ℕ) (t u : Bool) → eqb (bit c i) 1 ≡ t → (t ≡ true → eqb (bit b i) 1 ≡ u)
+    → eqb (bit (bitAnd (bitAnd a b) c) i) 1 ≡ t && (eqb (bit a i) 1 && u)
+masked a b c i t u e h = in-both (bitAnd a b) c i ∙ ap₂ _&&_ (in-both a b i) e ∙ go t h
+  where
+    go : (t : Bool) → (t ≡ true → eqb (bit b i) 1 ≡ u) → (eqb (bit a i) 1 && eqb (bit b i) 1) && t ≡ t && (eqb (bit a i) 1 && u)
+    go true h = and-true (eqb (bit a i) 1 && eqb (bit b i) 1) ∙ ap (λ (w : Bool). eqb (bit a i) 1 && w) (h refl)
+    go false h = and-false (eqb (bit a i) 1 && eqb (bit b i) 1)
 
 -- ---- the lowest seven stars part entries
 
@@ -66,11 +67,8 @@ module _ (i x : ℕ) (h : i < 7) where
 
   pub low-pair : (bs : List ℕ) → x < 2 ^ width → eqb (bit (lowAt bs (2 ^ i) (x % 128)) (x / 128)) 1 ≡ paired bs i x
   low-pair bs b =
-      in-three (getD bs (x % 128) 0) (getD bs (x % 128 + 2 ^ i) 0) (planesOf (x % 128) (2 ^ i)) (x / 128)
-      ∙ masked (inPlanes bs x && eqb (bit (getD bs (x % 128 + 2 ^ i) 0) (x / 128)) 1) (clear x i) (eqb (bit (planesOf (x % 128) (2 ^ i)) (x / 128)) 1)
-      (inPlanes bs x && inPlanes bs (x + 2 ^ i))
-      (all-planes (x % 128) i (x / 128) (omega arith) ∙ ap (λ (z : ℕ). eqb z 0) in-entry)
-      (λ t. ap (λ (s : Bool). inPlanes bs x && s) (other t))
+      masked (getD bs (x % 128) 0) (getD bs (x % 128 + 2 ^ i) 0) (planesOf (x % 128) (2 ^ i)) (x / 128) (clear x i) (inPlanes bs (x + 2 ^ i))
+      (all-planes (x % 128) i (x / 128) (omega arith) ∙ ap (λ (z : ℕ). eqb z 0) in-entry) other
     where
       other : clear x i ≡ true → eqb (bit (getD bs (x % 128 + 2 ^ i) 0) (x / 128)) 1 ≡ inPlanes bs (x + 2 ^ i)
       other t =
@@ -96,19 +94,18 @@ module _ {i shift keep : ℕ} (H : High i shift keep) (x : ℕ) (b : x < 2 ^ wid
   kept-clear : eqb (bit keep (x / 128)) 1 ≡ clear x i
   kept-clear =
       let k : bit keep (x / 128) ≡ 1 - bit x i = H .kept (x / 128) (omega arith) ∙ ap (λ (z : ℕ). 1 - z) (sym of-plane) in
-      ⊎-elim (λ z. eq-eqb (bit keep (x / 128)) 1 (omega arith) ∙ sym (is-clear x i z)) (λ o. ne-eqb (bit keep (x / 128)) 1 (λ q. omega arith) ∙ sym (not-clear x i o))
+      ⊎-elim (λ z. eq-eqb (bit keep (x / 128)) 1 (omega arith) ∙ sym (is-clear x i z))
+      (λ o. ne-eqb (bit keep (x / 128)) 1 (λ q. omega arith) ∙ sym (not-clear x i o))
       (bit-cases x i)
 
   pub high-pair : (bs : List ℕ) → eqb (bit (highAt bs shift keep (x % 128)) (x / 128)) 1 ≡ paired bs i x
   high-pair bs =
-      in-three (getD bs (x % 128) 0) (getD bs (x % 128) 0 / 2 ^ shift) keep (x / 128)
-      ∙ masked (inPlanes bs x && eqb (bit (getD bs (x % 128) 0 / 2 ^ shift) (x / 128)) 1) (clear x i) (eqb (bit keep (x / 128)) 1)
-      (inPlanes bs x && inPlanes bs (x + 2 ^ i))
-      kept-clear (λ t. ap (λ (s : Bool). inPlanes bs x && s) other)
+      masked (getD bs (x % 128) 0) (getD bs (x % 128) 0 / 2 ^ shift) keep (x / 128) (clear x i) (inPlanes bs (x + 2 ^ i)) kept-clear (λ t. other)
     where
       other : eqb (bit (getD bs (x % 128) 0 / 2 ^ shift) (x / 128)) 1 ≡ inPlanes bs (x + 2 ^ i)
       other =
-          let s : 2 ^ i ≡ 128 * shift = ap (λ (z : ℕ). 2 ^ z) (omega (arith, H .least)) ∙ pow-add 2 7 (i - 7) ∙ ap (λ (z : ℕ). 128 * z) (sym (H .step)) in
+          let i7 : i ≡ 7 + (i - 7) = omega (arith, H .least) in
+          let s : 2 ^ i ≡ 128 * shift = ap (λ (z : ℕ). 2 ^ z) i7 ∙ pow-add 2 7 (i - 7) ∙ ap (λ (z : ℕ). 128 * z) (sym (H .step)) in
           let e : x % 128 ≡ (x + 2 ^ i) % 128 = omega arith in
           let p : shift + x / 128 ≡ (x + 2 ^ i) / 128 = omega arith in
           ap (λ (z : ℕ). eqb z 1) (sym (bit-shr (getD bs (x % 128) 0) shift (x / 128)))
@@ -124,12 +121,12 @@ same-below f g n e j h = sym (getD-each f 0 n j h) ∙ ap (λ (l : List ℕ). ge
 
 pub high-7 : High 7 1 85
 unfolding over
-high-7 = record { least = omega arith; below = omega arith; step = refl; kept = same-below (bit 85) (λ j. 1 - bit j 0) 8 refl }
+high-7 = record { least = omega arith; step = refl; kept = same-below (bit 85) (λ j. 1 - bit j 0) 8 refl }
 
 pub high-8 : High 8 2 51
 unfolding over
-high-8 = record { least = omega arith; below = omega arith; step = refl; kept = same-below (bit 51) (λ j. 1 - bit j 1) 8 refl }
+high-8 = record { least = omega arith; step = refl; kept = same-below (bit 51) (λ j. 1 - bit j 1) 8 refl }
 
 pub high-9 : High 9 4 15
 unfolding over
-high-9 = record { least = omega arith; below = omega arith; step = refl; kept = same-below (bit 15) (λ j. 1 - bit j 2) 8 refl }
+high-9 = record { least = omega arith; step = refl; kept = same-below (bit 15) (λ j. 1 - bit j 2) 8 refl }

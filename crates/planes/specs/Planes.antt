@@ -38,7 +38,6 @@ NoPair i bs = (x : ℕ) → x < 2 ^ width → paired bs i x ≡ false
 -- the star 2^i of the highest three: it parts planes 2^(i - 7) apart, and `keep` has the planes without it
 pub record High (i shift keep : ℕ) : Type 0 where
   pub least : 7 ≤ i
-  pub below : i < width
   pub step : shift ≡ 2 ^ (i - 7)
   pub kept : (j : ℕ) → j < 8 → bit keep j ≡ 1 - bit j (i - 7)
 

@@ -30,7 +30,8 @@ fits : (c : tie.In-loop Inv-loop μ-loop) → getD (c .before .loop .bytes) (c .
 fits c =
     let a = c .before .before .args in
     let l = c .before .loop in
-    room (a .flags .now) (a .bytes .now) (l .bytes) (a .j) (l .e) (omega arith) (omega arith) (c .before .before .pre .1) (l .inv .0 .rest (l .e) (omega arith))
+    room (a .flags .now) (a .bytes .now) (l .bytes) (a .j) (l .e) (omega arith) (omega arith) (c .before .before .pre .1)
+    (l .inv .0 .rest (l .e) (omega arith))
 
 mul-bytes : tie.Need-mul-bytes Inv-loop μ-loop
 mul-bytes c = omega (arith, fits (c .before))
@@ -61,9 +62,10 @@ loop-less c = omega arith
 
 loop-again : tie.Need-loop-again Inv-loop μ-loop
 loop-again c =
-    let S = c .before .before .before .before .loop .inv .0 in
-    let e = c .before .before .before .before .loop .e in
-    (swept-put _ S (omega (arith, c .before .before .before .before .before .pre .1 .long)) (ap₂ (λ (x y : ℕ). 2 * x + y) (S .rest e (omega arith)) (c .one .ensures)), omega arith)
+    let at = c .before .before .before .before in
+    let S = at .loop .inv .0 in
+    let v = ap₂ (λ (x y : ℕ). 2 * x + y) (S .rest (at .loop .e) (omega arith)) (c .one .ensures) in
+    (swept-put _ S (omega (arith, at .before .pre .1 .long)) v, omega arith)
 
 returns : tie.Need-returns Inv-loop μ-loop
 returns c =

@@ -40,7 +40,8 @@ loop-again c =
     let at = c .before .before .before .before .before in
     let l = at .loop in
     let bs = at .before .args .bytes .now in
-    let here : NoPair (l .i) bs = λ x b. sym (c .before .before .before .fold-star .ensures x b) ∙ c .before .is-empty .ensures (not-false _ (c .if1 .left)) x b in (
+    let E = c .before .is-empty .ensures (not-false _ (c .if1 .left)) in
+    let here : NoPair (l .i) bs = λ x b. sym (c .before .before .before .fold-star .ensures x b) ∙ E x b in (
       (λ k a b. ⊎-elim (λ p. l .inv .0 k a p) (λ g. let e : l .i ≡ k = omega arith in subst (λ (j : ℕ). NoPair j bs) e here) (lt-or k (l .i))),
       omega arith,
     )

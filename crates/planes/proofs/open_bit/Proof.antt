@@ -17,7 +17,9 @@ returns : tie.Need-returns
 returns c = record { power = inl refl; none = λ e. c .before .rows-none .ensures (c .if1 .taken) }
 
 returns-2 : tie.Need-returns-2
-returns-2 c = record { power = inr (c .pow2 .ensures); none = λ e. absurd (omega (arith, c .pow2 .ensures, pow-pos (c .before .before .before .args .d))) }
+returns-2 c =
+    let p = c .pow2 .ensures in
+    record { power = inr p; none = λ e. absurd (omega (arith, p, pow-pos (c .before .before .before .args .d))) }
 
 pub open-bit-spec : {M : Type 1} → statement M
 open-bit-spec = tie.close (tie.spec rows-none-requires pow2-requires returns returns-2)

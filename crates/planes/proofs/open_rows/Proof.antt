@@ -49,7 +49,8 @@ turn c = c .before .before .before .before .before .before .before .before
 
 next : (c : tie.After-open-bit Inv-loop μ-loop)
     → let a = turn c .before .before .args in
-    Looked (flagged (a .flags .now)) (a .n) (a .low) (turn c .loop .d + 1) (turn c .loop .mask + c .open-bit .result) (c .before .before .before .before .before .fold-star .result)
+    let l = turn c .loop in
+    Looked (flagged (a .flags .now)) (a .n) (a .low) (l .d + 1) (l .mask + c .open-bit .result) (c .before .before .before .before .before .fold-star .result)
 next c =
     let fold = c .before .before .before .before .before in
     looked-next (fold .fold-star .result) (omega arith) (omega arith) (omega arith) (omega arith) (turn c .loop .inv .0) (fold .fold-star .ensures)

@@ -1,6 +1,7 @@
 -- `planes::rows_none` meets its contract. Assumes nothing.
 use borrow.Author.Needs.{needs}
 use native.Mathlib.Omega.{arith}
+use Rattle.planes.specs.Planes.{tops}
 use Rattle.planes.proofs.Rows.{tops-low, rows-none}
 use Rattle.planes.proofs.rows_none.Statement.{statement}
 use Rattle.planes.proofs.rows_none.Tie as tie
@@ -18,7 +19,12 @@ no-pair-requires : tie.Need-no-pair-requires
 no-pair-requires c κs = search needs
 
 returns : tie.Need-returns
-returns c = λ e f F. let a = c .before .before .before .args in rows-none f (c .before .before .fold-bottom .result) (a .n) (a .d) (a .l) (omega arith) (omega arith) (c .before .before .fold-bottom .ensures f _ (tops-low (a .n) (a .d) (a .l) (omega arith)) F) (a .first) (c .no-pair .ensures e)
+returns c =
+    let a = c .before .before .before .args in
+    let bottom = c .before .before .fold-bottom in
+    λ e f F.
+    rows-none f (bottom .result) (a .n) (a .d) (a .l) (omega arith) (omega arith)
+    (bottom .ensures f (tops (a .n) (a .d)) (tops-low (a .n) (a .d) (a .l) (omega arith)) F) (a .first) (c .no-pair .ensures e)
 
 pub rows-none-spec : {M : Type 1} → statement M
 rows-none-spec =

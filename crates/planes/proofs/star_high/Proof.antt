@@ -40,7 +40,10 @@ loop-again : tie.Need-loop-again Inv-loop μ-loop
 loop-again c = (filled-next _ (c .before .before .before .loop .inv .0) (omega arith) refl, omega arith)
 
 returns : tie.Need-returns Inv-loop μ-loop
-returns c = high-across (c .before .before .args .from .now) (c .before .loop .to) (c .before .before .args .shift) (c .before .before .args .kept) (c .before .loop .e) (c .before .loop .inv .0) (omega arith)
+returns c =
+    let a = c .before .before .args in
+    let l = c .before .loop in
+    high-across (a .from .now) (l .to) (a .shift) (a .kept) (l .e) (l .inv .0) (omega arith)
 
 pub star-high-spec : {M : Type 1} → statement M
 star-high-spec =

@@ -52,7 +52,10 @@ loop-again c =
     (filled-next _ (l .inv .0) (omega arith) (ap (bitAnd both) (c .keep .ensures)), omega arith)
 
 returns : tie.Need-returns Inv-loop μ-loop
-returns c = low-across (c .before .before .args .from .now) (c .before .loop .to) (c .before .before .args .star) (c .before .loop .e) (c .before .loop .inv .0) (omega arith)
+returns c =
+    let a = c .before .before .args in
+    let l = c .before .loop in
+    low-across (a .from .now) (l .to) (a .star) (l .e) (l .inv .0) (omega arith)
 
 pub star-low-spec : {M : Type 1} → statement M
 star-low-spec =

@@ -12,7 +12,11 @@ rows-none-requires : tie.Need-rows-none-requires
 rows-none-requires c κs = search needs
 
 returns : tie.Need-returns
-returns c = λ e. let a = c .before .before .before .args in c .rows-none .ensures e (flagged (a .flags .now)) (tops-none (flagged (a .flags .now)) (c .before .before .pack .result) (a .n) (c .before .before .pack .ensures))
+returns c =
+    let a = c .before .before .before .args in
+    let labels = c .before .before .pack in
+    let f = flagged (a .flags .now) in
+    λ e. c .rows-none .ensures e f (tops-none f (labels .result) (a .n) (labels .ensures))
 
 pub tree-none-spec : {M : Type 1} → statement M
 tree-none-spec = tie.close (tie.spec pack-requires rows-none-requires returns)
