@@ -96,10 +96,10 @@ fn is_empty(bytes: &[u8; 192]) -> bool
     ensures { λ r. ⌜ (r ≡ true → Empty (now (bytes .entry))) ⌝ }
 {
     let mut any: u8 = 0;
-    let mut e: usize = 0;
-    while e < 128 {
-        any = any | bytes[e];
-        e += 1;
+    let mut at: usize = 0;
+    while at < 128 {
+        any = any | bytes[at];
+        at += 1;
     }
     any == 0
 }

@@ -10,10 +10,10 @@ use Rattle.planes.proofs.is_empty.Statement.{statement}
 use Rattle.planes.proofs.is_empty.Tie as tie
 
 abbrev Inv-loop : tie.InvT-loop
-Inv-loop bytes any₀ e₀ any e = (any ≡ 0 → (k : ℕ) → k < e → getD bytes k 0 ≡ 0) × (e ≤ 128)
+Inv-loop bytes any₀ at₀ any at = (any ≡ 0 → (k : ℕ) → k < at → getD bytes k 0 ≡ 0) × (at ≤ 128)
 
 abbrev μ-loop : tie.MeasureT-loop
-μ-loop bytes any₀ e₀ any e = 128 - e
+μ-loop bytes any₀ at₀ any at = 128 - at
 
 loop-holds : tie.Need-loop-holds Inv-loop μ-loop
 loop-holds c = ((λ q k h. absurd (omega arith)), omega arith)
@@ -21,8 +21,8 @@ loop-holds c = ((λ q k h. absurd (omega arith)), omega arith)
 element-copy-out-any : tie.Need-element-copy-out-any Inv-loop μ-loop
 element-copy-out-any c = omega arith
 
-add-e : tie.Need-add-e Inv-loop μ-loop
-add-e c = omega arith
+add-at : tie.Need-add-at Inv-loop μ-loop
+add-at c = omega arith
 
 loop-less : tie.Need-loop-less Inv-loop μ-loop
 loop-less c = omega arith
@@ -31,7 +31,7 @@ loop-again : tie.Need-loop-again Inv-loop μ-loop
 loop-again c =
     let l = c .before .before .loop in
     let bs = c .before .before .before .args .bytes .now in (
-      (λ q. let z = or-zero (l .any) (getD bs (l .e) 0) q in below-more (λ k. getD bs k 0 ≡ 0) (l .e) (l .inv .0 (z .0)) (z .1)),
+      (λ q. let z = or-zero (l .any) (getD bs (l .at) 0) q in below-more (λ k. getD bs k 0 ≡ 0) (l .at) (l .inv .0 (z .0)) (z .1)),
       omega arith,
     )
 
@@ -41,4 +41,4 @@ returns c = λ q. zeros-empty (c .before .before .args .bytes .now) (λ e h. c .
 pub is-empty-spec : {M : Type 1} → statement M
 is-empty-spec =
     tie.close
-    (tie.spec Inv-loop μ-loop loop-holds element-copy-out-any add-e loop-less loop-again returns)
+    (tie.spec Inv-loop μ-loop loop-holds element-copy-out-any add-at loop-less loop-again returns)
