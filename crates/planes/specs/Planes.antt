@@ -20,6 +20,7 @@ pub record Packed (fs : List ℕ) (e j v : ℕ) : Type 0 where
   pub small : v < 2 ^ (8 - j)
   pub plane : (k : ℕ) → j ≤ k → k < 8 → eqb (bit v (k - j)) 1 ≡ flagged fs (128 * k + e)
 
+-- the same of all entries; the 64 bytes beyond them tell nothing
 pub record PackedFrom (fs : List ℕ) (j : ℕ) (bs : List ℕ) : Type 0 where
   pub long : length bs ≡ 192
   pub entry : (e : ℕ) → e < 128 → Packed fs e j (getD bs e 0)
@@ -32,6 +33,7 @@ paired bs i x = clear x i && (inPlanes bs x && inPlanes bs (x + 2 ^ i))
 abbrev pub Across : ℕ → List ℕ → List ℕ → Type 0
 Across i bs cs = (x : ℕ) → x < 2 ^ width → inPlanes cs x ≡ paired bs i x
 
+-- no two are the star 2^i apart
 abbrev pub NoPair : ℕ → List ℕ → Type 0
 NoPair i bs = (x : ℕ) → x < 2 ^ width → paired bs i x ≡ false
 
@@ -61,7 +63,7 @@ Folded f s bs = (x : ℕ) → x < 2 ^ width → Lowest s x → inPlanes bs x ≡
 abbrev pub tops : ℕ → ℕ → ℕ
 tops n d = (2 ^ d - 1) * 2 ^ (n - d)
 
--- what is told of the rows of d by r, where the top d stars are folded in bs: 0 where none has a free member, else 2^d
+-- r is 2^d, or else 0, and 0 says that no row of d has a free member, where bs has the top d stars folded
 pub record Opened (bs : List ℕ) (n d l r : ℕ) : Type 0 where
   pub power : (r ≡ 0) ⊎ (r ≡ 2 ^ d)
   pub none : r ≡ 0 → (f : ℕ → Bool) → Folded f (tops n d) bs → NoMember f n d l 1
