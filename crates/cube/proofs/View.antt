@@ -20,7 +20,7 @@ use Rattle.history.specs.Account.{History, put, putAll, wipe, freeLabel}
 use Rattle.history.proofs.Counting.{means-among}
 use Rattle.labels.specs.Flags.{flags}
 use Rattle.labels.proofs.Flags.{flags-free, flag-test}
-use Rattle.walks.specs.Flagged.{flagged}
+use Rattle.runs.specs.Flagged.{flagged}
 use Rattle.state.specs.declared.State.{State}
 use Rattle.state.specs.States.{given, cleared}
 use Rattle.state.specs.Acts.{walkOf}

@@ -17,7 +17,7 @@ use Rattle.labels.specs.Directions.{Directions}
 use Rattle.labels.specs.Flags.{EmptyFrom, byNode, byLabel, flags}
 use Rattle.labels.proofs.Directions.{directions}
 use Rattle.labels.proofs.Flags.{empty-by-node, flags-moved}
-use Rattle.walks.specs.Flagged.{flagged}
+use Rattle.runs.specs.Flagged.{flagged}
 use Rattle.state.specs.declared.State.{State}
 use Rattle.state.specs.Valid.{Valid}
 use Rattle.state.specs.Acts.{nodeCount, walkOf}

@@ -1,13 +1,14 @@
 -- The free test by halves: with no star it is the lowest label's, else both halves' across any star. Assumes nothing.
-use Prim.Native.Nat.{ℕ, zero, suc, _+_, _^_, _<_}
+use Prim.Native.Nat.{ℕ, zero, suc, _+_, _-_, _*_, _^_, _<_, _≤_}
 use mathlib.Core.Logic.{⊎-elim}
 use mathlib.Core.Path.{_≡_, refl, sym, ap, ap₂, _∙_}
-use mathlib.Core.Bool.{Bool, true, false, _&&_}
+use mathlib.Core.Bool.{Bool, true, false, _&&_, and-false}
+use native.Mathlib.Nat.{pow-succ'}
 use native.Mathlib.Omega.{arith}
 use borrow.Author.Tests.{eq-eqb, ne-eqb}
 use Rattle.hypercube.specs.Bits.{bit, ones}
 use Rattle.hypercube.specs.Subcubes.{freeAt}
-use Rattle.hypercube.proofs.Bits.{lt-or, bit-cases, set-same, set-other}
+use Rattle.hypercube.proofs.Bits.{lt-or, bit-cases, bit-high, bit-above, bit-below, set-same, set-other}
 
 -- ---- the test goes down the bits: past a 0, across a star
 
@@ -16,6 +17,20 @@ swap true true c d = refl
 swap true false true d = refl
 swap true false false d = refl
 swap false b c d = refl
+
+-- a number of e + 1 bits, by its highest
+clear-lt : (e s : ℕ) → s < 2 * 2 ^ e → bit s e ≡ 0 → s < 2 ^ e
+clear-lt e s l z = ⊎-elim (λ h. h) (λ g. absurd (omega (arith, div-one e s g l))) (lt-or s (2 ^ e))
+  where
+    div-one : (e s : ℕ) → 2 ^ e ≤ s → s < 2 * 2 ^ e → bit s e ≡ 1
+    div-one e s g l =
+        let r = s - 2 ^ e in
+        let parts : s ≡ 1 * 2 ^ e + r = omega arith in
+        let z : e + 0 ≡ e = omega arith in
+        ap (λ (x : ℕ). bit x e) parts ∙ (rw z at (bit-above 1 e 0 r (omega arith)))
+
+set-le : (e s : ℕ) → bit s e ≡ 1 → 2 ^ e ≤ s
+set-le e s o = ⊎-elim (λ h. absurd (omega (arith, bit-high s e e h (omega arith)))) (λ g. g) (lt-or s (2 ^ e))
 
 module _ (f : ℕ → Bool) where
   pub past : (e s b : ℕ) → bit s e ≡ 0 → freeAt f (suc e) s b ≡ freeAt f e s b
@@ -74,3 +89,22 @@ module _ (f : ℕ → Bool) where
           ∙ swap (freeAt f e s b) (freeAt f e s (b + 2 ^ i)) (freeAt f e s (b + 2 ^ e)) (freeAt f e s (b + 2 ^ e + 2 ^ i))
           ∙ ap₂ _&&_ (sym (across e s b o)) (ap (λ (c : ℕ). freeAt f e s (b + 2 ^ i) && freeAt f e s c) order ∙ sym (across e s (b + 2 ^ i) o)))
           (bit-cases s e)
+
+  -- nor where its highest label is not
+  pub highest-first : (e s b : ℕ) → s < 2 ^ e → f (b + s) ≡ false → freeAt f e s b ≡ false
+  unfolding freeAt
+  highest-first zero s b l h = let z : b + s ≡ b = omega arith in rw z at h
+  highest-first (suc e) s b l h =
+      let two : 2 ^ suc e ≡ 2 * 2 ^ e = pow-succ' 2 e in
+      ⊎-elim (λ z. past e s b z ∙ highest-first e s b (clear-lt e s (omega arith) z) h)
+      (λ o.
+      let r = s - 2 ^ e in
+      let least : 2 ^ e ≤ s = set-le e s o in
+      let parts : s ≡ 1 * 2 ^ e + r = omega arith in
+      let top : b + 2 ^ e + r ≡ b + s = omega arith in
+      across e s b o
+      ∙ ap (λ (x : Bool). freeAt f e s b && x)
+      (by-bits e s r (b + 2 ^ e) (λ i k. ap (λ (x : ℕ). bit x i) parts ∙ bit-below 1 e i r k)
+      ∙ highest-first e r (b + 2 ^ e) (omega arith) (rw top h))
+      ∙ and-false (freeAt f e s b))
+      (bit-cases s e)

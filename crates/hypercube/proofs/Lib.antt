@@ -6,8 +6,8 @@ pub mod Below
 pub mod Lists
 pub mod Filled
 pub mod Pigeonhole
-pub mod Vertices
 pub mod Halves
+pub mod Vertices
 pub mod Labels
 pub mod Relabels
 pub mod Moved

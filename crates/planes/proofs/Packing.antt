@@ -13,7 +13,7 @@ use Rattle.hypercube.specs.Bits.{width, bit}
 use Rattle.hypercube.proofs.Bits.{lt-or, bit-suc, ones-zero}
 use Rattle.hypercube.proofs.Filled.{Swept}
 use Rattle.hypercube.proofs.Halves.{free-node}
-use Rattle.planes.specs.Rows.{flagged}
+use Rattle.runs.specs.Flagged.{flagged}
 use Rattle.planes.specs.Planes.{Packed, PackedFrom, Folded}
 
 pub flag-lt : (t : Bool) → _<_ (cond t 1 0) 2

@@ -9,7 +9,8 @@ use lib.Dec.{eqb}
 use lib.ListN.{length, getD}
 use Rattle.hypercube.specs.Bits.{width, bit, clear}
 use Rattle.hypercube.specs.Subcubes.{subcube, isFree}
-use Rattle.planes.specs.Rows.{flagged, NoMember}
+use Rattle.runs.specs.Flagged.{flagged}
+use Rattle.planes.specs.Rows.{NoMember}
 
 -- label x is in the set
 abbrev pub inPlanes : List ℕ → ℕ → Bool

@@ -1,17 +1,10 @@
--- Which labels are free, by the flags, and rows without a free member. Document 01, "Families and their order".
+-- Rows without a free member. Document 01, "Families and their order".
 use Prim.Native.Nat.{ℕ, _-_, _^_, _<_, _≤_}
 use mathlib.Core.Path.{_≡_}
 use mathlib.Core.Bool.{Bool, false}
-use mathlib.Core.List.{List}
-use lib.Dec.{eqb}
-use lib.ListN.{getD}
 use Rattle.hypercube.specs.Bits.{bit}
 use Rattle.hypercube.specs.Subcubes.{isFree}
 use Rattle.hypercube.specs.Families.{treeMember}
-
--- a label is free where its flag is 1
-abbrev pub flagged : List ℕ → ℕ → Bool
-flagged fs l = eqb (getD fs l 0) 1
 
 -- no member is free of those whose top d and bottom l of n bits are stars, with one star more at a place p from `first` on, for any α
 abbrev pub NoMember : (ℕ → Bool) → ℕ → ℕ → ℕ → ℕ → Type 0

@@ -6,7 +6,8 @@ ghost use mathlib.Core.Bool.{Bool, true, cond};
 ghost use Prim.Native.Nat.{ℕ, _+_, _-_, _^_, _≤_, _<_};
 ghost use lib.Dec.{eqb};
 ghost use Rattle.hypercube.specs.Bits.{bit};
-ghost use Rattle.planes.specs.Rows.{flagged, NoMember};
+ghost use Rattle.runs.specs.Flagged.{flagged};
+ghost use Rattle.planes.specs.Rows.{NoMember};
 ghost use Rattle.planes.specs.Planes.{PackedFrom, Across, NoPair, High, planesOf, Empty, Folded, tops, Opened, ZeroBelow};
 
 // 1 for a flag of 1, else 0.

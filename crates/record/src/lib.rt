@@ -184,7 +184,7 @@ pub fn is_valid(bytes: &[u8]) -> bool
     state_right(bytes)
 }
 
-// The first 16 bytes: length, kind, n, the map and the zero byte. Of the bytes from there on nothing is said: `store` goes on to store them all.
+// The first 16 bytes: length, kind, n, the map and the zero byte. The others stay.
 fn put_head(s: State, bytes: &mut [u8])
     requires { ⌜ length (now bytes) ≡ 3088 ⌝ }
     ensures { λ _. ⌜ Stored s (now (bytes .entry)) 16 (now (bytes .exit)) ⌝ }
@@ -202,7 +202,7 @@ fn put_head(s: State, bytes: &mut [u8])
     bytes[15] = 0;
 }
 
-// The holders after them; the conditions are still to be stored.
+// The holders after them. The others stay.
 fn put_holders(s: State, bytes: &mut [u8])
     requires { ⌜ Begun s 16 (now bytes) ⌝ }
     ensures { λ _. ⌜ Stored s (now (bytes .entry)) 2064 (now (bytes .exit)) ⌝ }

@@ -11,7 +11,7 @@ use Rattle.hypercube.specs.Families.{choice}
 use Rattle.hypercube.specs.declared.Walk.{Walk}
 use Rattle.labels.specs.Flags.{flags}
 use Rattle.labels.specs.Relabelling.{faulty}
-use Rattle.walks.specs.Flagged.{flagged}
+use Rattle.runs.specs.Flagged.{flagged}
 use Rattle.state.specs.declared.State.{State}
 use Rattle.state.specs.declared.Call.{Call}
 use Rattle.state.specs.declared.Call.the-variants.{Good, Fault, Repaired, Relabel, Request, Release}

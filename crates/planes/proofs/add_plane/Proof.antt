@@ -5,7 +5,7 @@ use native.Mathlib.Omega.{arith}
 use borrow.Author.Needs.{needs}
 use lib.ListN.{getD}
 use Rattle.hypercube.proofs.Filled.{Swept, swept-none, swept-put}
-use Rattle.planes.specs.Rows.{flagged}
+use Rattle.runs.specs.Flagged.{flagged}
 use Rattle.planes.proofs.Packing.{addedAt, flag-lt, room, packed-all}
 use Rattle.planes.proofs.add_plane.Statement.{statement}
 use Rattle.planes.proofs.add_plane.Tie as tie

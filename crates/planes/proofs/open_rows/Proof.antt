@@ -3,7 +3,7 @@ use Prim.Native.Nat.{_+_, _-_, _≤_}
 use native.Mathlib.Omega.{arith}
 use borrow.Author.Needs.{needs}
 use lib.Pow.{pow-mono}
-use Rattle.planes.specs.Rows.{flagged}
+use Rattle.runs.specs.Flagged.{flagged}
 use Rattle.planes.proofs.Rows.{Looked, looked-start, looked-next, looked-empty}
 use Rattle.planes.proofs.open_rows.Statement.{statement}
 use Rattle.planes.proofs.open_rows.Tie as tie
@@ -50,7 +50,8 @@ turn c = c .before .before .before .before .before .before .before .before
 next : (c : tie.After-open-bit Inv-loop μ-loop)
     → let a = turn c .before .before .args in
     let l = turn c .loop in
-    Looked (flagged (a .flags .now)) (a .n) (a .low) (l .d + 1) (l .mask + c .open-bit .result) (c .before .before .before .before .before .fold-star .result)
+    Looked (flagged (a .flags .now)) (a .n) (a .low) (l .d + 1) (l .mask + c .open-bit .result)
+    (c .before .before .before .before .before .fold-star .result)
 next c =
     let fold = c .before .before .before .before .before in
     looked-next (fold .fold-star .result) (omega arith) (omega arith) (omega arith) (omega arith) (turn c .loop .inv .0) (fold .fold-star .ensures)

@@ -1,6 +1,6 @@
 -- `planes::tree_none` meets its contract. Assumes nothing.
 use borrow.Author.Needs.{needs}
-use Rattle.planes.specs.Rows.{flagged}
+use Rattle.runs.specs.Flagged.{flagged}
 use Rattle.planes.proofs.Rows.{tops-none}
 use Rattle.planes.proofs.tree_none.Statement.{statement}
 use Rattle.planes.proofs.tree_none.Tie as tie

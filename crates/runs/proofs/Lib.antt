@@ -1,0 +1,3 @@
+-- The laws of runs and levels.
+pub mod Runs
+pub mod Levels

@@ -1,0 +1,3 @@
+-- Flags, runs of them, and the levels that are made of them.
+pub mod Flagged
+pub mod Levels
