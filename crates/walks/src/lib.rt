@@ -5,8 +5,9 @@ use hypercube::Subcube;
 use hypercube::Walk;
 use hypercube::pow2;
 ghost use mathlib.Core.Path.{_≡_};
-ghost use mathlib.Core.Bool.{true};
-ghost use Prim.Native.Nat.{_+_, _-_, _*_, _%_, _^_, _≤_, _<_, min};
+ghost use mathlib.Core.Bool.{true, _&&_};
+ghost use Prim.Native.Nat.{suc, _+_, _-_, _*_, _%_, _^_, _≤_, _<_, min};
+ghost use lib.Dec.{eqb};
 ghost use lib.ListN.{length};
 ghost use Rattle.hypercube.specs.Lists.{over};
 ghost use Rattle.hypercube.specs.Bits.{bit};
@@ -14,10 +15,13 @@ ghost use Rattle.hypercube.specs.Gray.{G};
 ghost use Rattle.gray.specs.Tables.{labelTable};
 ghost use Rattle.hypercube.specs.Subcubes.{isFree};
 ghost use Rattle.hypercube.specs.Families.{buddyMember, buddy, grayMember, gray, treeMember, tree, further, more, extended, firstFree, choice};
-ghost use Rattle.walks.specs.Flagged.{flagged};
+ghost use Rattle.runs.specs.Flagged.{flagged};
+ghost use Rattle.runs.specs.Levels.{Level};
+ghost use Rattle.planes.specs.Rows.{NoMember};
 ghost use Rattle.walks.specs.Inside.{Inside, Testable, Highest};
 ghost use Rattle.walks.specs.Each.{eachMember, eachCount, each};
-ghost use Rattle.walks.specs.Blocks.{treeBlock, zeroDigits, rows};
+ghost use Rattle.walks.specs.Blocks.{treeBlock, zeroDigits, Row};
+ghost use Rattle.walks.specs.Open.{Leveled, Narrowed, Closed};
 
 // Digit p of x, from 0.
 fn digit(x: u16, p: u16) -> u16
@@ -60,6 +64,10 @@ pub fn free(flags: &[u8; 1024], c: Subcube, k: u16) -> bool
         return false;
     }
     let rest = c.stars - star;
+    // The halves of a run of labels are runs: it is looked at whole.
+    if rest + 1 == star {
+        return runs::run_free(flags, low, star + star);
+    }
     let lower = Subcube {
         low: Label(low),
         stars: rest,
@@ -71,12 +79,20 @@ pub fn free(flags: &[u8; 1024], c: Subcube, k: u16) -> bool
     free(flags, lower, k - 1) && free(flags, upper, k - 1)
 }
 
-// The same for a walk, which meets many that are not: where the lowest label is not free, nothing is halved.
+// The same for a walk, which meets many that are not: where the highest label is not free, nothing is halved.
+fn upper_free(flags: &[u8; 1024], c: Subcube, k: u16) -> bool
+    requires { ⌜ Testable k c ⌝ }
+    ensures { λ r. ⌜ r ≡ isFree (flagged (now (flags .entry))) c ⌝ }
+{
+    label_free(flags, Label(c.low.0 + c.stars)) && free(flags, c, k)
+}
+
+// Nor where the lowest is not, which is looked at first.
 fn member_free(flags: &[u8; 1024], c: Subcube, k: u16) -> bool
     requires { ⌜ Testable k c ⌝ }
     ensures { λ r. ⌜ r ≡ isFree (flagged (now (flags .entry))) c ⌝ }
 {
-    label_free(flags, c.low) && free(flags, c, k)
+    label_free(flags, c.low) && upper_free(flags, c, k)
 }
 
 // Buddy's member α: the lowest k bits are stars.
@@ -221,7 +237,8 @@ fn block_free(flags: &[u8; 1024], n: u16, d: u16, l: u16, alpha: u16) -> bool
     requires { ⌜ Testable (l + d) (treeBlock n d l alpha) ⌝ }
     ensures { λ r. ⌜ r ≡ isFree (flagged (now (flags .entry))) (treeBlock n d l alpha) ⌝ }
 {
-    label_free(flags, Label(alpha * pow2(l))) && free(flags, tree_block(n, d, l, alpha), l + d)
+    label_free(flags, Label(alpha * pow2(l)))
+        && upper_free(flags, tree_block(n, d, l, alpha), l + d)
 }
 
 // The member of one star more, the digit at place p: it is this block and the one at α + 2^p.
@@ -246,43 +263,62 @@ fn zero_digits(alpha: u16, c: u16, p: u16) -> u16
     c - ones
 }
 
-// The rows of one d and of α from `from` below `to`: by α, by p from `first`, counted on from `before`.
-// "The least α, and for it the least p, with a free member ends the walk."
-fn rows_walk(
-    flags: &[u8; 1024],
-    n: u16,
-    d: u16,
-    l: u16,
-    first: u16,
-    from: u16,
-    to: u16,
-    before: u16,
-) -> Walk
-    requires { ⌜ (l + d < n) × (n ≤ 10) × (first ≤ 1) × (to ≤ 2 ^ (n - l - d)) ⌝ }
-    requires { ⌜ before + length (rows n d l first from to) < 65536 ⌝ }
-    ensures { λ r. ⌜ r ≡ firstFree (isFree (flagged (now (flags .entry)))) (rows n d l first from to) before ⌝ }
+// How many members the tree has.
+fn tree_count(n: u16, k: u16) -> u16
+    requires { ⌜ (1 ≤ k) × (k ≤ n) × (n ≤ 10) ⌝ }
+    ensures { λ r. ⌜ r ≡ length (tree n k) ⌝ }
 {
-    let digits = n - l - d;
-    let mut tried = before;
-    let mut alpha = from; // the least α
+    (n - k + 1) * pow2(n - k)
+}
+
+// After so many rows, or so many whose block is free, and no member yet, all rows are looked at at once.
+const ROWS: u16 = 512;
+
+const SOME: u16 = 48;
+
+// Whether no row has a free member, told for every α at once. It looks only when that is due, and may miss that there is none: the walk then goes on.
+fn none_at(flags: &[u8; 1024], n: u16, low: u16, due: bool) -> bool
+    requires { ⌜ (low < n) × (n ≤ 10) ⌝ }
+    ensures { λ r. ⌜ (r ≡ true → NoMember (flagged (now (flags .entry))) n 0 low 0) ⌝ }
+{
+    due && planes::tree_none(flags, n, low)
+}
+
+// The tree's rows: by α, by p. "The least α, and for it the least p, with a free member ends the walk."
+fn tree_rows(flags: &[u8; 1024], n: u16, low: u16) -> Walk
+    requires { ⌜ (low < n) × (n ≤ 10) ⌝ }
+    ensures { λ r. ⌜ r ≡ firstFree (isFree (flagged (now (flags .entry)))) (tree n (suc low)) 0 ⌝ }
+{
+    let digits = n - low;
+    let end = pow2(digits);
+    let mut tried: u16 = 0;
+    let mut seen: u16 = 0; // the rows whose block was free
+    let mut alpha: u16 = 0; // the least α
     'walk: loop {
-        if to <= alpha {
+        if end <= alpha {
             break 'walk Walk::NoneFree(tried);
         }
+        if none_at(flags, n, low, alpha == ROWS) {
+            break 'walk Walk::NoneFree(tree_count(n, low + 1));
+        }
         // Where the block is not free, no member that shares it is.
-        if block_free(flags, n, d, l, alpha) {
-            let mut p = first; // and for it the least p
+        if block_free(flags, n, 0, low, alpha) {
+            seen += 1;
+            if none_at(flags, n, low, seen == SOME) {
+                break 'walk Walk::NoneFree(tree_count(n, low + 1));
+            }
+            let mut p: u16 = 0; // and for it the least p
             while p < digits {
                 if digit(alpha, p) == 0 {
                     tried += 1;
-                    if block_free(flags, n, d, l, alpha + pow2(p)) {
-                        break 'walk Walk::Found(tree_member(n, d, l, alpha, p), tried);
+                    if block_free(flags, n, 0, low, alpha + pow2(p)) {
+                        break 'walk Walk::Found(tree_member(n, 0, low, alpha, p), tried);
                     }
                 }
                 p += 1;
             }
         } else {
-            tried += zero_digits(alpha, digits - first, first);
+            tried += zero_digits(alpha, digits, 0);
         }
         alpha += 1;
     }
@@ -296,14 +332,78 @@ pub fn tree_walk(flags: &[u8; 1024], n: u16, k: u16) -> Walk
     if k == 0 {
         return buddy_walk(flags, n, 0);
     }
-    let low = k - 1;
-    rows_walk(flags, n, 0, low, 0, 0, pow2(n - low), 0)
+    tree_rows(flags, n, k - 1)
 }
 
-// What extended has for one α beyond the tree's members, "by d from 1, by p from 1", counted on from `before`.
-// A row whose block is not free is counted without a call.
-fn further_walk(flags: &[u8; 1024], n: u16, low: u16, alpha: u16, before: u16) -> Walk
+// Extended's row of one α and d, "by p from 1", counted on from `before`, where the block of α is free.
+fn row_walk(
+    flags: &[u8; 1024],
+    levels: &[u8; 2048],
+    n: u16,
+    d: u16,
+    low: u16,
+    alpha: u16,
+    before: u16,
+) -> Walk
+    requires { ⌜ Row n d (low - d) (n - low) alpha × (d ≤ low) × (low < n) ⌝ }
+    requires { ⌜ Level (flagged (now flags)) n d (now levels) ⌝ }
+    requires { ⌜ isFree (flagged (now flags)) (treeBlock n d (low - d) alpha) ≡ true ⌝ }
+    requires { ⌜ before + length (further n low alpha d) < 65536 ⌝ }
+    ensures { λ r. ⌜ r ≡ firstFree (isFree (flagged (now (flags .entry)))) (further n low alpha d) before ⌝ }
+{
+    let digits = n - low;
+    let l = low - d;
+    let mut tried = before;
+    let mut p: u16 = 1;
+    'walk: loop {
+        if digits <= p {
+            break 'walk Walk::NoneFree(tried);
+        }
+        if digit(alpha, p) == 0 {
+            tried += 1;
+            if runs::block_at(levels, n, d, l, alpha + pow2(p)) {
+                break 'walk Walk::Found(tree_member(n, d, l, alpha, p), tried);
+            }
+        }
+        p += 1;
+    }
+}
+
+// Whether the row of α and d may have a free member: the mask has d, and the block of α is free. Its lowest label is looked at first.
+fn may_have(
+    flags: &[u8; 1024],
+    levels: &[u8; 2048],
+    mask: u16,
+    n: u16,
+    d: u16,
+    low: u16,
+    alpha: u16,
+) -> bool
+    requires { ⌜ (1 ≤ d) × (d ≤ low) × (low < n) × (n ≤ 10) × (alpha < 2 ^ (n - low)) ⌝ }
+    requires { ⌜ Leveled (flagged (now flags)) n low mask (now levels) ⌝ }
+    ensures { λ r. ⌜ r ≡ (eqb (bit mask d) 1 && isFree (flagged (now (flags .entry))) (treeBlock n d (low - d) alpha)) ⌝ }
+{
+    let l = low - d;
+    if !label_free(flags, Label(alpha * pow2(l))) {
+        return false;
+    }
+    digit(mask, d) == 1 && runs::block_at(levels, n, d, l, alpha)
+}
+
+// What extended has for one α beyond the tree's members, "by d from 1, by p from 1", counted on from `before`. The d that the mask lacks have
+// no free member; a row whose block is not free is counted without a call.
+fn further_walk(
+    flags: &[u8; 1024],
+    levels: &[u8; 2048],
+    n: u16,
+    low: u16,
+    mask: u16,
+    alpha: u16,
+    before: u16,
+) -> Walk
     requires { ⌜ (low < n) × (n ≤ 10) × (alpha < 2 ^ (n - low)) ⌝ }
+    requires { ⌜ Leveled (flagged (now flags)) n low mask (now levels) ⌝ }
+    requires { ⌜ Closed (flagged (now flags)) n low mask ⌝ }
     requires { ⌜ before + length (over (further n low alpha) low 1) < 65536 ⌝ }
     ensures { λ r. ⌜ r ≡ firstFree (isFree (flagged (now (flags .entry)))) (over (further n low alpha) low 1) before ⌝ }
 {
@@ -314,9 +414,8 @@ fn further_walk(flags: &[u8; 1024], n: u16, low: u16, alpha: u16, before: u16) -
         if low < d {
             break 'walk Walk::NoneFree(tried);
         }
-        let l = low - d;
-        if block_free(flags, n, d, l, alpha) {
-            let row = rows_walk(flags, n, d, l, 1, alpha, alpha + 1, tried); // by p from 1
+        if may_have(flags, levels, mask, n, d, low, alpha) {
+            let row = row_walk(flags, levels, n, d, low, alpha, tried); // by p from 1
             let Walk::NoneFree(_) = row else {
                 break 'walk row;
             };
@@ -326,12 +425,43 @@ fn further_walk(flags: &[u8; 1024], n: u16, low: u16, alpha: u16, before: u16) -
     }
 }
 
-// The same for each α: all that extended has beyond the tree's members.
+// How many members extended has beyond the tree's.
+fn more_count(n: u16, low: u16) -> u16
+    requires { ⌜ (low < n) × (n ≤ 10) ⌝ }
+    ensures { λ r. ⌜ r ≡ length (more n low) ⌝ }
+{
+    let places = n - low - 1;
+    low * places * pow2(places)
+}
+
+// After so many α, where there are more than four times as many, all rows are looked at at once.
+const MANY: u16 = 32;
+
+// The d of the mask that may still have a free member, by a look at all rows at once.
+fn looked(flags: &[u8; 1024], n: u16, low: u16, mask: u16) -> u16
+    requires { ⌜ (low < n) × (n ≤ 10) ⌝ }
+    requires { ⌜ Closed (flagged (now flags)) n low mask ⌝ }
+    ensures { λ r. ⌜ Narrowed mask r × Closed (flagged (now (flags .entry))) n low r ⌝ }
+{
+    if pow2(n - low) <= 4 * MANY {
+        return mask;
+    }
+    mask & planes::open_rows(flags, n, low, low)
+}
+
+// All that extended has beyond the tree's members, by α, counted on from `before`.
 fn more_walk(flags: &[u8; 1024], n: u16, low: u16, before: u16) -> Walk
     requires { ⌜ (low < n) × (n ≤ 10) ⌝ }
     requires { ⌜ before + length (more n low) < 65536 ⌝ }
     ensures { λ r. ⌜ r ≡ firstFree (isFree (flagged (now (flags .entry)))) (more n low) before ⌝ }
 {
+    let count = more_count(n, low);
+    let none = Walk::NoneFree(before + count);
+    if count == 0 {
+        return none;
+    }
+    let mut levels = [0; 2048];
+    let mut mask = runs::fill_levels(flags, n, low, &mut levels);
     let alphas = pow2(n - low);
     let mut tried = before;
     let mut alpha: u16 = 0; // by α
@@ -339,12 +469,18 @@ fn more_walk(flags: &[u8; 1024], n: u16, low: u16, before: u16) -> Walk
         if alphas <= alpha {
             break 'walk Walk::NoneFree(tried);
         }
-        let rows = further_walk(flags, n, low, alpha, tried);
+        if mask == 0 {
+            break 'walk none;
+        }
+        let rows = further_walk(flags, &levels, n, low, mask, alpha, tried);
         let Walk::NoneFree(t) = rows else {
             break 'walk rows;
         };
         tried = t;
         alpha += 1;
+        if alpha == MANY {
+            mask = looked(flags, n, low, mask);
+        }
     }
 }
 
