@@ -41,6 +41,7 @@ fn lines(rows: &[Row]) -> Vec<Line> {
         unit: "ns",
         refused: row.answer(proved::call).0 != 0,
         took: times.of_calls(),
+        second: times.median(),
     };
     rows.iter().zip(&times).map(line).collect()
 }
@@ -49,7 +50,8 @@ fn lines(rows: &[Row]) -> Vec<Line> {
 fn log_lines(programs: [&Path; 2]) -> std::io::Result<Vec<Line>> {
     let line = |n: u64| {
         let took = logs::time(22 + n, 1_000_000, programs)?.map(|s| s * 1000.0).to_vec();
-        Ok(Line { name: format!("log program, n {n}"), unit: "ms", refused: false, took })
+        let (name, second) = (format!("log program, n {n}"), took[0] / took[1]);
+        Ok(Line { name, unit: "ms", refused: false, took, second })
     };
     [4, 7, 10].into_iter().map(line).collect()
 }

@@ -1,12 +1,14 @@
 //! What is printed: rows, a line for each part, and what all rows show.
 
 /// A row's name and what its call took by the library, by the second program
-/// and, where it answers, by the limit.
+/// and, where it answers, by the limit; and the library's time by the second
+/// program's in the middle one of the rounds.
 pub struct Line {
     pub name: String,
     pub unit: &'static str,
     pub refused: bool,
     pub took: Vec<f64>,
+    pub second: f64,
 }
 
 /// A program that the library is compared with: its place in `took`, and the
@@ -25,7 +27,10 @@ const SHOWN: usize = 20;
 
 impl Line {
     fn ratio(&self, anchor: &Anchor) -> Option<f64> {
-        Some(self.took[0] / self.took.get(anchor.program)?)
+        match anchor.program {
+            1 => Some(self.second),
+            program => Some(self.took[0] / self.took.get(program)?),
+        }
     }
 }
 
@@ -35,8 +40,10 @@ pub fn rows(title: &str, lines: &[Line]) {
     println!("{:74} {:>11} {:>16} {:>16}", "call", "library", "second / ratio", "limit / ratio");
     for line in lines {
         print!("{:74} {:>8.0} {}", line.name, line.took[0], line.unit);
-        for took in &line.took[1..] {
-            print!(" {took:>9.0} {:>6.2}", line.took[0] / took);
+        for anchor in [SECOND, LIMIT] {
+            if let Some(ratio) = line.ratio(&anchor) {
+                print!(" {:>9.0} {ratio:>6.2}", line.took[anchor.program]);
+            }
         }
         println!();
     }
@@ -92,6 +99,11 @@ fn anchored(what: &str, anchor: &Anchor, lines: &[&Line]) {
 pub fn summary(lines: &[Line]) {
     let (refused, others): (Vec<_>, Vec<_>) = lines.iter().partition(|line| line.refused);
     anchored("all", &SECOND, &lines.iter().collect::<Vec<_>>());
+    let mut least: Vec<_> = lines.iter().map(|line| line.took[0] / line.took[1]).collect();
+    least.sort_by(f64::total_cmp);
+    if let Some(highest) = least.last() {
+        println!("by least times: {} above 1.00; highest {highest:.2}", above(&SECOND, &least));
+    }
     anchored("refusals", &LIMIT, &refused);
     anchored("grants", &LIMIT, &others);
 }

@@ -60,14 +60,20 @@ impl Times {
         self.least.iter().map(|both| both - self.clock).collect()
     }
 
+    /// The first program's time by the second's in the middle one of the
+    /// rounds, in each of which both took their turns.
+    pub fn median(&self) -> f64 {
+        let mut ratios = self.ratios.clone();
+        ratios.sort_by(f64::total_cmp);
+        ratios[ratios.len() / 2]
+    }
+
     /// How much longer the first program surely takes than the second: by the
     /// least times and by half of the rounds. Where the machine is busy with
     /// other things, only one of these is often too high.
     pub fn slower(&self) -> f64 {
         let took = self.of_calls();
-        let mut ratios = self.ratios.clone();
-        ratios.sort_by(f64::total_cmp);
-        (took[0] / took[1]).min(ratios[ratios.len() / 2])
+        (took[0] / took[1]).min(self.median())
     }
 }
 
