@@ -61,7 +61,8 @@ fn first_level(flags: &[u8; 1024], n: u16, levels: &mut [u8; 2048])
     }
 }
 
-// Level d, from the level before it: both halves across the star that is new. Tells whether any block is free.
+// Level d, from the level before it: both halves across the star that is new. 'No' promises that no block is free; 'yes' promises nothing, for a level
+// without a free block only costs its walk.
 fn next_level(levels: &mut [u8; 2048], n: u16, d: u16) -> bool
     requires { ⌜ (1 ≤ d) × (d ≤ n) × (n ≤ 10) × (length (now levels) ≡ 2048) ⌝ }
     ensures { λ r. ⌜ NextLevel n d (now (levels .entry)) r (now (levels .exit)) ⌝ }
@@ -80,7 +81,8 @@ fn next_level(levels: &mut [u8; 2048], n: u16, d: u16) -> bool
     some != 0
 }
 
-// The levels up to `deep`, as far as they have a free block, and a mask of those that do. Where one has none, no later one has.
+// The levels up to `deep`, as far as they have a free block, and a mask of those that do. Where one has none, no later one has. What the mask lacks
+// has none for certain; a level too many in it only costs its walk.
 pub fn fill_levels(flags: &[u8; 1024], n: u16, deep: u16, levels: &mut [u8; 2048]) -> u16
     requires { ⌜ (deep ≤ n) × (n ≤ 10) × (length (now levels) ≡ 2048) ⌝ }
     ensures { λ r. ⌜ Levels (flagged (now (flags .entry))) n deep r (now (levels .exit)) ⌝ }

@@ -437,7 +437,7 @@ fn more_count(n: u16, low: u16) -> u16
 // After so many α, where there are more than four times as many, all rows are looked at at once.
 const MANY: u16 = 32;
 
-// The d of the mask that may still have a free member, by a look at all rows at once.
+// The d of the mask that may still have a free member, by a look at all rows at once. A d that stays for nothing only costs its walk.
 fn looked(flags: &[u8; 1024], n: u16, low: u16, mask: u16) -> u16
     requires { ⌜ (low < n) × (n ≤ 10) ⌝ }
     requires { ⌜ Closed (flagged (now flags)) n low mask ⌝ }
