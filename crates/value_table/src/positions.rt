@@ -2,7 +2,7 @@
 use super::print;
 ghost use Prim.Native.Nat.{_<_};
 
-fn show_entry(i: usize, label: u32, position: u32)
+fn show_entry(i: usize, label: u16, position: u16)
     requires { ⌜ i < 1024 ⌝ }
 {
     if i % 8 == 0 {
@@ -10,8 +10,8 @@ fn show_entry(i: usize, label: u32, position: u32)
         print::next(i as u32);
         print::text(b";");
     }
-    print::next(label);
-    print::next(position);
+    print::word(label);
+    print::word(position);
     if i % 8 == 7 {
         print::text(b"\n");
     }

@@ -115,16 +115,16 @@ fn lesser(a: u16, b: u16) -> u16
 }
 
 // The label at position b, by Gray's table.
-fn label_at(labels: &[u32; 1024], b: u16) -> Label
+fn label_at(labels: &[u16; 1024], b: u16) -> Label
     requires { ⌜ b < 1024 ⌝ }
     requires { ⌜ now labels ≡ labelTable ⌝ }
     ensures { λ r. ⌜ r .0 ≡ G b ⌝ }
 {
-    Label(labels[b as usize] as u16)
+    Label(labels[b as usize])
 }
 
 // Gray's member α, above the lowest j bits: the neighbours at positions α and α + 1 of 2^m, the last's next being the first.
-fn gray_member(labels: &[u32; 1024], m: u16, j: u16, alpha: u16) -> Subcube
+fn gray_member(labels: &[u16; 1024], m: u16, j: u16, alpha: u16) -> Subcube
     requires { ⌜ (m ≤ 10) × (alpha < 2 ^ m) ⌝ }
     requires { ⌜ Inside (grayMember m j alpha) ⌝ }
     requires { ⌜ now labels ≡ labelTable ⌝ }
@@ -140,7 +140,7 @@ fn gray_member(labels: &[u32; 1024], m: u16, j: u16, alpha: u16) -> Subcube
 }
 
 // Member α of a family that has one for each α: Gray's, for k below n, or buddy's, which needs no table.
-fn each_member(labels: &[u32; 1024], gray: bool, n: u16, k: u16, alpha: u16) -> Subcube
+fn each_member(labels: &[u16; 1024], gray: bool, n: u16, k: u16, alpha: u16) -> Subcube
     requires { ⌜ (k ≤ n) × (n ≤ 10) × (alpha < eachCount gray n k) ⌝ }
     requires { ⌜ Inside (eachMember gray n k alpha) ⌝ }
     requires { ⌜ (gray ≡ true → now labels ≡ labelTable) ⌝ }
@@ -173,7 +173,7 @@ fn each_count(gray: bool, n: u16, k: u16) -> u16
 }
 
 // The walk over such a family.
-fn each_walk(flags: &[u8; 1024], labels: &[u32; 1024], gray: bool, n: u16, k: u16) -> Walk
+fn each_walk(flags: &[u8; 1024], labels: &[u16; 1024], gray: bool, n: u16, k: u16) -> Walk
     requires { ⌜ (k ≤ n) × (n ≤ 10) ⌝ }
     requires { ⌜ (gray ≡ true → k < n) ⌝ }
     requires { ⌜ (gray ≡ true → now labels ≡ labelTable) ⌝ }
