@@ -23,7 +23,10 @@ fn calls() -> Vec<Part> {
 
 /// The parts that are asked for.
 pub fn all(options: &Options) -> Vec<Part> {
-    let patterns = patterns::plain(10).chain(patterns::relabelled(10)).chain(patterns::small(7));
+    let patterns = patterns::plain(10)
+        .chain(patterns::relabelled(10))
+        .chain(patterns::small(7))
+        .chain(patterns::small(4));
     let patterns = patterns.map(|(title, rows)| Part { title, rows, each: false });
     calls().into_iter().chain(patterns).filter(|part| options.wants(&part.title)).collect()
 }

@@ -1,5 +1,5 @@
 //! The rows that take one build of the library more than a tenth longer than
-//! another build. `bench/slower` builds and runs this.
+//! another build, or all rows. `bench/slower` builds and runs this.
 
 use cube_bench::options::Options;
 use cube_bench::parts;
@@ -40,13 +40,15 @@ fn print(row: &Row, times: &Times) {
 }
 
 fn main() -> ExitCode {
+    let options = Options::read();
     let mut ratios = Vec::new();
-    println!("{:74} {:>11} {:>9} {:>6}", "slower by more than a tenth", "newer", "older", "ratio");
-    for part in parts::all(&Options::read()) {
+    let title = if options.all { "all rows" } else { "slower by more than a tenth" };
+    println!("{title:74} {:>11} {:>9} {:>6}", "newer", "older", "ratio");
+    for part in parts::all(&options) {
         let in_doubt = |times: &Times| times.slower() > TENTH;
         let times = time::times(&part.rows, |_| vec![NEWER, OLDER], in_doubt);
         for (row, times) in part.rows.iter().zip(times) {
-            if times.slower() > TENTH {
+            if options.all || times.slower() > TENTH {
                 print(row, &times);
             }
             ratios.push(times.slower());
