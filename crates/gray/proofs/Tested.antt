@@ -11,7 +11,7 @@ use Rattle.hypercube.specs.Gray.{G, position}
 use Rattle.hypercube.proofs.Tests.{means-true, means-eq, means-lt, means-and}
 use Rattle.hypercube.proofs.GrayCode.{position-G}
 use Rattle.gray.specs.declared.GrayCode.{GrayCode}
-use Rattle.gray.specs.Tables.{labelTable, positionTable, grayCode}
+use Rattle.gray.specs.Tables.{firstLabels, labelTable, positionTable, grayCode}
 
 -- both tables in step, from place b on: l is the label at position b, and p, a number of ten bits, the position whose label is b
 unfoldable pub tested : ℕ → List ℕ → List ℕ → Bool
@@ -41,5 +41,5 @@ unfolding labelTable positionTable
 passed ls ps e t =
     let r = by-rule 0 ls ps t in
     ap₂ (λ (a b : List ℕ). record { labels = a; positions = b })
-    (r .0 ∙ ap (λ (c : ℕ). map G (from 0 c)) e)
+    (r .0 ∙ ap firstLabels e)
     (r .1 ∙ ap (λ (c : ℕ). map position (from 0 c)) e)

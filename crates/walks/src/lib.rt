@@ -12,14 +12,13 @@ ghost use lib.ListN.{length};
 ghost use Rattle.hypercube.specs.Lists.{over};
 ghost use Rattle.hypercube.specs.Bits.{bit};
 ghost use Rattle.hypercube.specs.Gray.{G};
-ghost use Rattle.gray.specs.Tables.{labelTable};
 ghost use Rattle.hypercube.specs.Subcubes.{isFree};
 ghost use Rattle.hypercube.specs.Families.{buddyMember, buddy, grayMember, gray, treeMember, tree, further, more, extended, firstFree, choice};
 ghost use Rattle.runs.specs.Flagged.{flagged};
 ghost use Rattle.runs.specs.Levels.{Level};
 ghost use Rattle.planes.specs.Rows.{NoMember};
 ghost use Rattle.walks.specs.Inside.{Inside, Testable, Highest};
-ghost use Rattle.walks.specs.Each.{eachMember, eachCount, each};
+ghost use Rattle.walks.specs.Each.{eachMember, eachCount, each, Lent};
 ghost use Rattle.walks.specs.Blocks.{treeBlock, zeroDigits, Row};
 ghost use Rattle.walks.specs.Open.{Leveled, Narrowed, Closed};
 
@@ -115,19 +114,18 @@ fn lesser(a: u16, b: u16) -> u16
 }
 
 // The label at position b, by Gray's table.
-fn label_at(labels: &[u16; 1024], b: u16) -> Label
-    requires { ⌜ b < 1024 ⌝ }
-    requires { ⌜ now labels ≡ labelTable ⌝ }
+fn label_at(labels: &[u16], b: u16) -> Label
+    requires { ⌜ Lent (suc b) (now labels) ⌝ }
     ensures { λ r. ⌜ r .0 ≡ G b ⌝ }
 {
     Label(labels[b as usize])
 }
 
 // Gray's member α, above the lowest j bits: the neighbours at positions α and α + 1 of 2^m, the last's next being the first.
-fn gray_member(labels: &[u16; 1024], m: u16, j: u16, alpha: u16) -> Subcube
+fn gray_member(labels: &[u16], m: u16, j: u16, alpha: u16) -> Subcube
     requires { ⌜ (m ≤ 10) × (alpha < 2 ^ m) ⌝ }
     requires { ⌜ Inside (grayMember m j alpha) ⌝ }
-    requires { ⌜ now labels ≡ labelTable ⌝ }
+    requires { ⌜ Lent (2 ^ m) (now labels) ⌝ }
     ensures { λ r. ⌜ r ≡ grayMember m j alpha ⌝ }
 {
     let a = label_at(labels, alpha).0;
@@ -140,10 +138,10 @@ fn gray_member(labels: &[u16; 1024], m: u16, j: u16, alpha: u16) -> Subcube
 }
 
 // Member α of a family that has one for each α: Gray's, for k below n, or buddy's, which needs no table.
-fn each_member(labels: &[u16; 1024], gray: bool, n: u16, k: u16, alpha: u16) -> Subcube
+fn each_member(labels: &[u16], gray: bool, n: u16, k: u16, alpha: u16) -> Subcube
     requires { ⌜ (k ≤ n) × (n ≤ 10) × (alpha < eachCount gray n k) ⌝ }
     requires { ⌜ Inside (eachMember gray n k alpha) ⌝ }
-    requires { ⌜ (gray ≡ true → now labels ≡ labelTable) ⌝ }
+    requires { ⌜ (gray ≡ true → Lent (eachCount gray n k) (now labels)) ⌝ }
     ensures { λ r. ⌜ r ≡ eachMember gray n k alpha ⌝ }
 {
     if gray {
@@ -173,10 +171,10 @@ fn each_count(gray: bool, n: u16, k: u16) -> u16
 }
 
 // The walk over such a family.
-fn each_walk(flags: &[u8; 1024], labels: &[u16; 1024], gray: bool, n: u16, k: u16) -> Walk
+fn each_walk(flags: &[u8; 1024], labels: &[u16], gray: bool, n: u16, k: u16) -> Walk
     requires { ⌜ (k ≤ n) × (n ≤ 10) ⌝ }
     requires { ⌜ (gray ≡ true → k < n) ⌝ }
-    requires { ⌜ (gray ≡ true → now labels ≡ labelTable) ⌝ }
+    requires { ⌜ (gray ≡ true → Lent (eachCount gray n k) (now labels)) ⌝ }
     ensures { λ r. ⌜ r ≡ firstFree (isFree (flagged (now (flags .entry)))) (each gray n k) 0 ⌝ }
 {
     let count = each_count(gray, n, k);
@@ -200,7 +198,7 @@ pub fn buddy_walk(flags: &[u8; 1024], n: u16, k: u16) -> Walk
     requires { ⌜ (k ≤ n) × (n ≤ 10) ⌝ }
     ensures { λ r. ⌜ r ≡ firstFree (isFree (flagged (now (flags .entry)))) (buddy n k) 0 ⌝ }
 {
-    let none = [0; 1024];
+    let none = [0; 1];
     each_walk(flags, &none, false, n, k)
 }
 
@@ -210,7 +208,12 @@ pub fn gray_walk(flags: &[u8; 1024], n: u16, k: u16) -> Walk
     ensures { λ r. ⌜ r ≡ firstFree (isFree (flagged (now (flags .entry)))) (gray n k) 0 ⌝ }
 {
     if k == n {
-        buddy_walk(flags, n, k)
+        return buddy_walk(flags, n, k);
+    }
+    // What is lent is stored first, so a small cube's walk is lent few labels.
+    if n <= 7 {
+        let first = gray::first_labels();
+        each_walk(flags, &first, true, n, k)
     } else {
         let labels = gray::labels();
         each_walk(flags, &labels, true, n, k)
@@ -276,7 +279,8 @@ const ROWS: u16 = 512;
 
 const SOME: u16 = 48;
 
-// Whether no row has a free member, told for every α at once. It looks only when that is due, and may miss that there is none: the walk then goes on.
+// Whether no row has a free member, told for every α at once. It looks only when that is due, and may miss that there is none: the walk then
+// goes on.
 fn none_at(flags: &[u8; 1024], n: u16, low: u16, due: bool) -> bool
     requires { ⌜ (low < n) × (n ≤ 10) ⌝ }
     ensures { λ r. ⌜ (r ≡ true → NoMember (flagged (now (flags .entry))) n 0 low 0) ⌝ }
