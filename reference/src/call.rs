@@ -56,13 +56,14 @@ fn report(record: &mut Record, node: u16, to: u8) -> Reply {
     Reply::Done { value }
 }
 
+/// D is taken over the nodes that aren't good: document 02, (b).
 fn relabel(record: &mut Record) -> Reply {
     if record::any_holder(record, |holder| holder != 0) {
         return Reply::refuse(13);
     }
     let conditions = record::conditions(record).iter().zip(0..);
-    let faulty = conditions.filter(|(c, _)| **c == FAULTY).map(|(_, node)| node);
-    let (map, size) = cube::relabel(record::dimension(record), faulty);
+    let not_good = conditions.filter(|(c, _)| **c != GOOD).map(|(_, node)| node);
+    let (map, size) = cube::relabel(record::dimension(record), not_good);
     record::set_map(record, &map);
     Reply::Done { value: size as u16 }
 }

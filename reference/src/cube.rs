@@ -63,9 +63,10 @@ fn parts(map: &Map, first: u32) -> [u16; 32] {
     parts
 }
 
-/// The map that a relabel gives for these faulty nodes, and the size of D.
-pub fn relabel(n: u32, faulty: impl IntoIterator<Item = u32>) -> (Map, u32) {
-    let d = differing(faulty);
+/// The map that a relabel gives when these nodes aren't good, and the size of
+/// D.
+pub fn relabel(n: u32, not_good: impl IntoIterator<Item = u32>) -> (Map, u32) {
+    let d = differing(not_good);
     let size = d.count_ones();
     if size == 0 || size == n {
         return (IDENTITY, size);

@@ -1,7 +1,8 @@
 //! Second program of the partition manager for binary hypercubes.
 //!
-//! It is written from document 01 alone ("Partition manager for binary
-//! hypercubes") and is what the proved program is compared with in test runs.
+//! It is written from document 01 ("Partition manager for binary hypercubes")
+//! and document 02, the requests after it, alone, and is what the proved
+//! program is compared with in test runs.
 //! `setup` and `call` work on byte slices, as the C boundary of document 01
 //! does; `choose` and `family` answer for the four strategies by label.
 

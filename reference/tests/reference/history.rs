@@ -30,17 +30,35 @@ impl History {
         for i in (1..state.map.len()).rev() {
             state.map.swap(i, rng.below(i as u32 + 1) as usize);
         }
-        let (held, sick) = (rng.below(9), rng.below(9));
+        let held = rng.below(9) * rng.below(2);
         for node in 0..1 << n {
-            state.condition[node] = match rng.below(32) {
-                roll if roll < sick => 2 * (roll % 2) as u8,
-                _ => 1,
-            };
             if rng.below(32) < held {
                 state.holder[node] = rng.pick(&[1, 2, 255, 256, 65535]);
             }
         }
+        match rng.below(3) {
+            0 => state.scatter(rng),
+            _ => state.gather(rng),
+        }
         state
+    }
+
+    /// Makes some nodes silent, some faulty and all others good.
+    fn scatter(&mut self, rng: &mut Rng) {
+        let sick = rng.below(9);
+        self.condition.fill_with(|| match rng.below(32) {
+            roll if roll < sick => 2 * (roll % 2) as u8,
+            _ => 1,
+        });
+    }
+
+    /// As `scatter`, but those that aren't good lie in a subcube.
+    fn gather(&mut self, rng: &mut Rng) {
+        let nodes = 1 << self.n;
+        let (low, stars) = (rng.below(nodes), rng.below(nodes) & rng.below(nodes));
+        for (condition, node) in self.condition.iter_mut().zip(0..) {
+            *condition = if (node ^ low) & !stars == 0 { rng.below(3) as u8 } else { 1 };
+        }
     }
 
     fn record(&self) -> Vec<u8> {
@@ -137,9 +155,9 @@ impl History {
     }
 
     fn relabel(&mut self) -> u16 {
-        let faulty: Vec<usize> = (0..1 << self.n).filter(|v| self.condition[*v] == 2).collect();
+        let not_good: Vec<usize> = (0..1 << self.n).filter(|v| self.condition[*v] != 1).collect();
         let bit = |node: usize, i: &u32| node >> (i - 1) & 1;
-        let differ = |i: &u32| faulty.iter().any(|v| bit(*v, i) != bit(faulty[0], i));
+        let differ = |i: &u32| not_good.iter().any(|v| bit(*v, i) != bit(not_good[0], i));
         let (d, others): (Vec<u32>, Vec<u32>) = (1..=self.n).partition(differ);
         let identity = d.is_empty() || others.is_empty();
         for (new, i) in (1..).zip(d.iter().chain(&others)) {

@@ -6,6 +6,7 @@ mod history;
 mod log;
 mod records;
 mod refusals;
+mod relabel;
 mod replies;
 mod sessions;
 mod sources;

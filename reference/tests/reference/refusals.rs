@@ -146,7 +146,7 @@ fn cause_13_relabel_while_held() {
     let mut cube = busy();
     refuses(&cube, &relabel(), 13, 0);
     assert_eq!(cube.call(&release(7)), Got::Done(2));
-    assert_eq!(cube.call(&relabel()), Got::Done(0));
+    assert_eq!(cube.call(&relabel()), Got::Done(1)); // 2 and 3 differ in direction 1
 }
 
 /// 0 to 4 and 8 aren't free, and each of the eight 3-cubes has one of them.

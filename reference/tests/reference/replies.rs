@@ -127,8 +127,7 @@ fn relabel_replies_the_size_of_d() {
         (4, &[6, 12], 2, [3, 1, 4, 2]),
     ];
     for (n, faulty, size, map) in cases {
-        let mut cube = Cube::new(n);
-        faulty.iter().for_each(|node| assert_eq!(cube.call(&fault(*node)), Got::Done(0)));
+        let mut cube = Cube::with_not_good(n, &[], faulty);
         let bytes: Vec<(usize, u8)> = (5..).zip(map).collect();
         changes(&mut cube, &relabel(), &bytes);
         assert_eq!(cube.call(&relabel()), Got::Done(size));
@@ -137,9 +136,7 @@ fn relabel_replies_the_size_of_d() {
 
 #[test]
 fn an_identity_relabel_undoes_the_last() {
-    let mut cube = Cube::new(3);
-    assert_eq!(cube.call(&fault(0)), Got::Done(0));
-    assert_eq!(cube.call(&fault(4)), Got::Done(0));
+    let mut cube = Cube::with_not_good(3, &[], &[0, 4]);
     changes(&mut cube, &relabel(), &[(5, 2), (6, 3), (7, 1)]);
     assert_eq!(cube.call(&fault(3)), Got::Done(0));
     changes(&mut cube, &relabel(), &[(5, 1), (6, 2), (7, 3)]);

@@ -48,12 +48,10 @@ fn row_6_a_faulty_node() {
     assert_eq!(cube.call(&request(2, 2, BUDDY)), refused(14, 2));
 }
 
-/// The labels of these faulty nodes once the cube has been relabelled.
+/// The labels of these faulty nodes once all others have reported good and the
+/// cube has been relabelled.
 fn labels_of_faulty(n: u32, nodes: &[u16]) -> Vec<u32> {
-    let mut cube = Cube::new(n);
-    for node in nodes {
-        assert_eq!(cube.call(&fault(*node)), Got::Done(0));
-    }
+    let mut cube = Cube::with_not_good(n, &[], nodes);
     assert!(matches!(cube.call(&relabel()), Got::Done(_)));
     nodes.iter().map(|node| cube.label((*node).into())).collect()
 }

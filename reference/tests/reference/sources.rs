@@ -146,10 +146,7 @@ fn moved(pairs: &[(usize, u8)]) -> Map {
 fn document_003_figure_5() {
     let figure = moved(&[(4, 1), (5, 2), (1, 3), (2, 4), (3, 5), (6, 6)]);
     assert_eq!(new_map(6, [21, 29, 5]), (figure, 2));
-    let mut cube = Cube::new(6);
-    for node in [21, 29, 5] {
-        cube.call(&fault(node));
-    }
+    let mut cube = Cube::with_not_good(6, &[], &[21, 29, 5]);
     assert_eq!(cube.call(&relabel()), Got::Done(2));
     for direction in 1..=10 {
         assert_eq!(cube.direction(direction), figure[direction - 1]);
@@ -163,9 +160,7 @@ fn document_003_figure_5() {
 fn document_003_figure_2() {
     let figure = moved(&[(1, 2), (2, 3), (3, 1)]);
     assert_eq!(new_map(3, [0, 4]), (figure, 1));
-    let mut cube = Cube::with_good(3, |node| node != 0 && node != 4);
-    cube.call(&fault(0));
-    cube.call(&fault(4));
+    let mut cube = Cube::with_not_good(3, &[], &[0, 4]);
     assert_eq!(cube.call(&request(1, 2, BUDDY)), refused(14, 2));
     assert_eq!(cube.call(&relabel()), Got::Done(1));
     // Labels 4 to 7, 1** by label, are the nodes *1*.

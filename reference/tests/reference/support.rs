@@ -86,6 +86,17 @@ impl Cube {
         cube
     }
 
+    /// A cube with these nodes silent and these faulty; all others have been
+    /// reported good.
+    pub fn with_not_good(n: u32, silent: &[u16], faulty: &[u16]) -> Cube {
+        let mut cube =
+            Cube::with_good(n, |node| !silent.contains(&node) && !faulty.contains(&node));
+        for node in faulty {
+            assert_eq!(cube.call(&fault(*node)), Got::Done(0));
+        }
+        cube
+    }
+
     /// One call with a reply buffer of 12 bytes, and its reply.
     pub fn call(&mut self, frame: &[u8]) -> Got {
         let mut reply = [0; 12];
