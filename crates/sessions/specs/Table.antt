@@ -1,7 +1,8 @@
 -- The table. Document 01, "Sessions of known outcome": "a/b t" is lowest node, star bits, tried.
-use mathlib.Core.List.{List, [], _∷_, map}
-use Prim.Native.Nat.{ℕ}
-use Rattle.hypercube.specs.Lists.{from}
+use mathlib.Core.Bool.{not}
+use mathlib.Core.List.{List, [], _∷_, _++_, map}
+use Prim.Native.Nat.{ℕ, _^_}
+use Rattle.hypercube.specs.Lists.{from, passing, among}
 use Rattle.hypercube.specs.Labels.{label}
 use Rattle.history.specs.Calls.{Call}
 use Rattle.history.specs.Account.{fresh}
@@ -25,12 +26,18 @@ play s =
     let h = afterAll (s .n) fresh (s .before) in
     record { told = verdictsOf (s .n) h (s .calls); labels = map (label (afterAll (s .n) h (s .calls) .directions)) (s .nodes) }
 
--- requests alone; a relabel, and then the labels of the faulty nodes
+abbrev pub goods : List ℕ → List Call
+goods xs = map good xs
+
+-- requests alone
 abbrev pub requests : ℕ → List Call → List Call → Session
 requests n before calls = record { n = n; before = before; calls = calls; nodes = [] }
 
+-- rows 7 and 8: a relabel, and then the labels of the faulty nodes. Document 02, (b): "if all other nodes have reported good"
 abbrev pub relabels : ℕ → List ℕ → Session
-relabels n faulty = record { n = n; before = map fault faulty; calls = relabel ∷ []; nodes = faulty }
+relabels n faulty =
+    let others = passing (λ x. not (among x faulty)) (2 ^ n) in
+    record { n = n; before = goods others ++ map fault faulty; calls = relabel ∷ []; nodes = faulty }
 
 abbrev pub told : List Verdict → Outcome
 told vs = record { told = vs; labels = [] }
@@ -38,9 +45,6 @@ told vs = record { told = vs; labels = [] }
 -- a relabel is told the size of D
 abbrev pub labelled : ℕ → List ℕ → Outcome
 labelled d ls = record { told = done d ∷ []; labels = ls }
-
-abbrev pub goods : List ℕ → List Call
-goods xs = map good xs
 
 -- rows 1 to 3: n 4, all good, requests of k 0, 3, 2, 1, 0 by jobs 1 to 5
 abbrev pub five : ℕ → Session

@@ -10,7 +10,7 @@ use Rattle.hypercube.specs.Subcubes.{vertices}
 use Rattle.hypercube.specs.Families.{choice}
 use Rattle.hypercube.specs.declared.Walk.{Walk}
 use Rattle.labels.specs.Flags.{flags}
-use Rattle.labels.specs.Relabelling.{faulty}
+use Rattle.labels.specs.Relabelling.{notGood}
 use Rattle.runs.specs.Flagged.{flagged}
 use Rattle.state.specs.declared.State.{State}
 use Rattle.state.specs.declared.Call.{Call}
@@ -62,7 +62,7 @@ reportStep s x v =
 unfoldable pub relabelStep : State → Step
 relabelStep s =
     cond (anyHeld s) (refuse s 13)
-    (step (withMap s (relabelled (s .n) (faulty (s .conditions)))) (Done (size (differing (s .n) (faulty (s .conditions))))))
+    (step (withMap s (relabelled (s .n) (notGood (s .conditions)))) (Done (size (differing (s .n) (notGood (s .conditions))))))
 
 -- the walk of a request, on the flags by label
 abbrev pub walkOf : State → ℕ → ℕ → Walk

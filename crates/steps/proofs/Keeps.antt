@@ -16,7 +16,7 @@ use Rattle.hypercube.specs.declared.Walk.the-variants.{Found, NoneFree}
 use Rattle.hypercube.proofs.Lists.{length-of}
 use Rattle.hypercube.proofs.Tests.{cases}
 use Rattle.hypercube.proofs.Relabels.{relabel-permutes}
-use Rattle.labels.specs.Relabelling.{faulty}
+use Rattle.labels.specs.Relabelling.{notGood}
 use Rattle.state.specs.declared.State.{State}
 use Rattle.state.specs.declared.Call.{Call}
 use Rattle.state.specs.declared.Call.the-variants.{Good, Fault, Repaired, Relabel, Request, Release}
@@ -65,7 +65,11 @@ module _ (s : State) (z : Sized s) where
   kept-relabel small =
       cases (anyHeld s) (λ l. rw l (kept-all _))
       (λ l. rw l (record {
-        sized = record { directions = relabel-permutes (s .n) small (faulty (s .conditions)) .entries; holders = z .holders; conditions = z .conditions };
+        sized = record {
+          directions = relabel-permutes (s .n) small (notGood (s .conditions)) .entries;
+          holders = z .holders;
+          conditions = z .conditions;
+        };
         same-n = refl;
         left = λ p. absurd (p refl);
       }))

@@ -6,7 +6,7 @@ use borrow.Author.Needs.{needs}
 use Rattle.hypercube.specs.Labels.{relabelled}
 use Rattle.hypercube.proofs.Relabels.{relabel-permutes}
 use Rattle.labels.specs.Directions.{Directions}
-use Rattle.labels.specs.Relabelling.{faulty, relabelling}
+use Rattle.labels.specs.Relabelling.{notGood, relabelling}
 use Rattle.labels.specs.declared.Relabelled.{Relabelled}
 use Rattle.labels.proofs.Directions.{directions}
 use Rattle.value_table.proofs.maps.relabelled.Statement.{statement}
@@ -14,7 +14,7 @@ use Rattle.value_table.proofs.maps.relabelled.Tie as tie
 use Rattle.labels.proofs.relabel.Reads as relabel-reads
 
 of-relabelling : (n : ℕ) (cs : List ℕ) (r : Relabelled) → n ≤ 10 → r ≡ relabelling n cs → Directions (r .map)
-of-relabelling n cs r h e = rw e (directions n (relabelled n (faulty cs)) h (relabel-permutes n h (faulty cs)))
+of-relabelling n cs r h e = rw e (directions n (relabelled n (notGood cs)) h (relabel-permutes n h (notGood cs)))
 
 slice-aggregate-relabel : tie.Need-slice-aggregate-relabel
 slice-aggregate-relabel c = search needs
