@@ -6,8 +6,18 @@ use crate::noise::frame;
 use crate::record::{self, Record, SIZE};
 use crate::{call, setup};
 
-/// How many calls a session has after all its nodes are reported good.
+/// How many calls a session has after its start.
 pub const CALLS: u32 = 40;
+
+/// The record that a session starts at: each node but 2^n / 2 has been
+/// reported good, and that one stays silent.
+pub fn start(n: u32) -> Record {
+    let (mut record, silent) = (fresh(n), (1 << n) / 2);
+    for node in (0..1 << n).filter(|node| *node != silent) {
+        assert_eq!(make(&mut record, Call::Good { node }).number, 0);
+    }
+    record
+}
 
 /// Numbers drawn one after another; a session of dimension n starts at n + 1.
 pub fn next(drawn: u32) -> u32 {

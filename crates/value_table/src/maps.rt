@@ -29,14 +29,14 @@ fn spread(n: u8, a: u8, b: u8) -> [u8; 10]
     map
 }
 
-// Conditions by which these three nodes are faulty.
-fn faulty(x: usize, y: usize, z: usize) -> [u8; 1024]
+// Conditions by which x is faulty, y and z are silent, and each other node is good.
+fn good_but(x: usize, y: usize, z: usize) -> [u8; 1024]
     requires { ⌜ (x < 1024) × (y < 1024) × (z < 1024) ⌝ }
 {
-    let mut conditions = [0; 1024];
+    let mut conditions = [1; 1024];
     conditions[x] = 2;
-    conditions[y] = 2;
-    conditions[z] = 2;
+    conditions[y] = 0;
+    conditions[z] = 0;
     conditions
 }
 
@@ -93,11 +93,11 @@ pub(crate) fn maps() {
     table(5, 1, spread(5, 1, 0));
     table(5, 1, spread(5, 2, 1));
     table(5, 1, spread(5, 3, 4));
-    table(5, 1, relabelled(5, faulty(0, 18, 16)));
-    table(6, 1, relabelled(6, faulty(21, 29, 5)));
+    table(5, 1, relabelled(5, good_but(0, 18, 16)));
+    table(6, 1, relabelled(6, good_but(21, 29, 5)));
     table(10, 33, spread(10, 1, 0));
     table(10, 33, spread(10, 3, 2));
     table(10, 33, spread(10, 9, 9));
-    table(10, 33, relabelled(10, faulty(85, 597, 84)));
-    table(10, 33, relabelled(10, faulty(0, 1023, 512)));
+    table(10, 33, relabelled(10, good_but(85, 597, 84)));
+    table(10, 33, relabelled(10, good_but(0, 1023, 512)));
 }

@@ -1,4 +1,4 @@
-// A session for each n: a fresh cube, every node reported good, then 40 calls.
+// A session for each n: a fresh cube, every node but 2^n / 2 reported good, then 40 calls.
 use super::drawn;
 use super::pair;
 use super::print;
@@ -6,23 +6,30 @@ use hypercube::Node;
 use state::State;
 ghost use Prim.Native.Nat.{_≤_};
 
-fn all_good(n: u16, fresh: State, rec: &mut [u8]) -> State
-    requires { ⌜ n ≤ 10 ⌝ }
-{
-    let count = hypercube::pow2(n);
-    let mut s = fresh;
-    let mut x: u16 = 0;
-    while x < count {
+fn good_from(first: u16, end: u16, before: State, rec: &mut [u8]) -> State {
+    let mut s = before;
+    let mut x = first;
+    while x < end {
         s = pair::reported(s, rec, Node(x));
         x += 1;
     }
     s
 }
 
-fn calls(n: u16, good: State, rec: &mut [u8])
+// Node 2^n / 2 stays silent.
+fn good_but_half(n: u16, fresh: State, rec: &mut [u8]) -> State
     requires { ⌜ n ≤ 10 ⌝ }
 {
-    let mut s = good;
+    let count = hypercube::pow2(n);
+    let half = count / 2;
+    let s = good_from(0, half, fresh, rec);
+    good_from(half + 1, count, s, rec)
+}
+
+fn calls(n: u16, start: State, rec: &mut [u8])
+    requires { ⌜ n ≤ 10 ⌝ }
+{
+    let mut s = start;
     let mut x = n as u32 + 1;
     let mut place: u32 = 0;
     while place < 40 {
@@ -37,7 +44,7 @@ fn session(n: u16)
 {
     let mut rec = [0; 3088];
     cube::cube_setup(&mut rec, n as u32);
-    let s = all_good(n, State::fresh(n as u8), &mut rec);
+    let s = good_but_half(n, State::fresh(n as u8), &mut rec);
     print::text(b"session");
     print::word(n);
     pair::show_sums(s, &rec);

@@ -6,7 +6,7 @@ use std::io::{self, BufWriter, Write};
 
 use cube_reference::frame::{Call, Reply};
 use cube_reference::record::Record;
-use cube_reference::session::{call_of, damaged, fresh, make, next, sum, CALLS, DAMAGES, EACH};
+use cube_reference::session::{call_of, damaged, make, next, start, sum, CALLS, DAMAGES, EACH};
 use cube_reference::{gray, label, node, relabel, Map, IDENTITY, MAX_N};
 
 /// One call: the reply by values; number and reply's words by a record; the
@@ -36,14 +36,11 @@ fn print_call(out: &mut impl Write, place: u32, record: &mut Record, call: Call)
     writeln!(out, "{} {a} {b} {c} {d} {e} {f}; {sum} {sum}", given.number)
 }
 
-/// Every node is reported good, then come the calls that are printed.
+/// The calls of a session, each printed.
 fn print_session(out: &mut impl Write, n: u32) -> io::Result<()> {
-    let mut record = fresh(n);
-    for node in 0..1 << n {
-        make(&mut record, Call::Good { node });
-    }
-    let all_good = sum(&record);
-    writeln!(out, "session {n}; {all_good} {all_good}")?;
+    let mut record = start(n);
+    let before = sum(&record);
+    writeln!(out, "session {n}; {before} {before}")?;
     let mut drawn = n + 1;
     for place in 0..CALLS {
         drawn = next(drawn);

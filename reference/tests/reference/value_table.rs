@@ -4,14 +4,13 @@
 use std::collections::BTreeSet;
 
 use cube_reference::frame::{Call, Reply};
-use cube_reference::session::{call_of, damaged, fresh, make, next, sum, CALLS, DAMAGES, EACH};
+use cube_reference::session::{call_of, damaged, make, next, start, sum, CALLS, DAMAGES, EACH};
 
 /// The calls of each session with what they gave.
 fn sessions() -> Vec<(Call, Reply)> {
     let mut all = Vec::new();
     for n in 0..=10 {
-        let mut record = fresh(n);
-        (0..1 << n).for_each(|node| assert_eq!(make(&mut record, Call::Good { node }).number, 0));
+        let mut record = start(n);
         let mut drawn = n + 1;
         for place in 0..CALLS {
             drawn = next(drawn);

@@ -1,21 +1,17 @@
--- `value_table::session::all_good` is safe and ends: a loop that counts up to its bound. Assumes nothing.
-use Prim.Native.Nat.{_-_, _≤_}
+-- `value_table::session::good_from` is safe and ends: a loop that counts up to its bound. Assumes nothing.
+use Prim.Native.Nat.{_-_}
 use mathlib.Core.Path.{_≡_}
 use lib.ListN.{length}
 use borrow.Author.Needs.{needs}
-use Rattle.value_table.proofs.session.all_good.Statement.{statement}
-use Rattle.value_table.proofs.session.all_good.Tie as tie
-use Rattle.hypercube.proofs.pow2.Reads as pow2-reads
+use Rattle.value_table.proofs.session.good_from.Statement.{statement}
+use Rattle.value_table.proofs.session.good_from.Tie as tie
 use Rattle.value_table.proofs.pair.reported.Reads as reported-reads
 
 abbrev Inv-loop : tie.InvT-loop
-Inv-loop n rec₀ count s₀ x₀ rec s x = (x ≤ count) × (length rec ≡ length rec₀)
+Inv-loop first end rec₀ s₀ x₀ rec s x = length rec ≡ length rec₀
 
 abbrev μ-loop : tie.MeasureT-loop
-μ-loop n rec₀ count s₀ x₀ rec s x = count - x
-
-pow2-requires : tie.Need-pow2-requires Inv-loop μ-loop
-pow2-requires c κs = search needs
+μ-loop first end rec₀ s₀ x₀ rec s x = end - x
 
 loop-holds : tie.Need-loop-holds Inv-loop μ-loop
 loop-holds c = search needs
@@ -38,13 +34,12 @@ same-length c = search needs
 returns : tie.Need-returns Inv-loop μ-loop
 returns c = search needs
 
-pub all-good-spec : {M : Type 1} → statement M
-all-good-spec =
+pub good-from-spec : {M : Type 1} → statement M
+good-from-spec =
     tie.close
     (tie.spec
     Inv-loop
     μ-loop
-    pow2-requires
     loop-holds
     reported-requires
     add-x
