@@ -1,74 +1,12 @@
 // The edges of document 01, and the causes in pairs: where two rows of the table are met at once, the first wins. Each line has the number returned
 // and the six words of the reply buffer, which held 61166 in each before the call.
-use libc::STDOUT_FILENO;
+mod printed;
 
-// 3088 bytes of 170, which set-up does not mind.
-fn buffer() -> [u8; 3088] {
-    [170; 3088]
-}
-
-fn word(low: u8, high: u8) -> u64 {
-    low as u64 + 256 * (high as u64)
-}
-
-fn print_word(low: u8, high: u8) {
-    io::write_all(STDOUT_FILENO, b" ");
-    io::print_decimal(STDOUT_FILENO, word(low, high));
-}
-
-fn print_number(name: &[u8], number: u32) {
-    io::write_all(STDOUT_FILENO, name);
-    io::write_all(STDOUT_FILENO, b": ");
-    io::print_decimal(STDOUT_FILENO, number as u64);
-}
-
-fn set_up(name: &[u8], rec: &mut [u8], n: u32) {
-    print_number(name, cube::cube_setup(rec, n));
-    io::write_all(STDOUT_FILENO, b"\n");
-}
-
-fn print_reply(name: &[u8], number: u32, r: [u8; 12]) {
-    print_number(name, number);
-    io::write_all(STDOUT_FILENO, b",");
-    print_word(r[0], r[1]);
-    print_word(r[2], r[3]);
-    print_word(r[4], r[5]);
-    print_word(r[6], r[7]);
-    print_word(r[8], r[9]);
-    print_word(r[10], r[11]);
-    io::write_all(STDOUT_FILENO, b"\n");
-}
-
-// One frame with a reply buffer of 12 bytes.
-fn call(name: &[u8], rec: &mut [u8], frame: &[u8]) {
-    let mut reply = [238; 12];
-    let number = cube::cube_call(rec, frame, &mut reply);
-    print_reply(name, number, reply);
-}
-
-// One frame with a reply buffer of 11 bytes.
-fn call_short(name: &[u8], rec: &mut [u8], frame: &[u8]) {
-    let mut reply = [238; 11];
-    let number = cube::cube_call(rec, frame, &mut reply);
-    print_reply(
-        name,
-        number,
-        [
-            reply[0],
-            reply[1],
-            reply[2],
-            reply[3],
-            reply[4],
-            reply[5],
-            reply[6],
-            reply[7],
-            reply[8],
-            reply[9],
-            reply[10],
-            238,
-        ],
-    );
-}
+use printed::buffer;
+use printed::call;
+use printed::call_short;
+use printed::make_good_from;
+use printed::set_up;
 
 fn set_ups() {
     let mut rec = buffer();
@@ -114,19 +52,6 @@ fn largest_jobs(rec: &mut [u8]) {
     );
     call(b"release by 65535", rec, b"\x06\x00\x02\x02\xff\xff");
     call(b"release by 0", rec, b"\x06\x00\x02\x02\x00\x00");
-}
-
-// 'good' of a node, with nothing printed.
-fn make_good(rec: &mut [u8], x: u16) {
-    let mut reply = [238; 12];
-    let frame = [6, 0, 1, 1, (x % 256) as u8, (x / 256) as u8];
-    cube::cube_call(rec, &frame, &mut reply);
-}
-
-fn make_all_good(rec: &mut [u8]) {
-    for x in 0..1024u16 {
-        make_good(rec, x);
-    }
 }
 
 // k = n on 1024 good nodes: each family has one member, the whole cube, which is granted, held and given back.
@@ -255,7 +180,7 @@ fn largest() {
     cube::cube_setup(&mut rec, 10);
     largest_nodes(&mut rec);
     largest_jobs(&mut rec);
-    make_all_good(&mut rec);
+    make_good_from(&mut rec, 0, 1024);
     whole_cubes(&mut rec);
 }
 

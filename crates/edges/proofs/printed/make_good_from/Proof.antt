@@ -1,16 +1,16 @@
--- `edges::make_all_good` is safe and ends. The loop's invariant: the record is as long as it was. Assumes nothing.
-use Prim.Native.Nat.{_-_, _≤_}
+-- `edges::printed::make_good_from` is safe and ends. The loop's invariant: the record is as long as it was. Assumes nothing.
+use Prim.Native.Nat.{_-_}
 use mathlib.Core.Path.{_≡_}
 use borrow.Author.Needs.{needs}
 use lib.ListN.{length}
-use Rattle.edges.proofs.make_all_good.Statement.{statement}
-use Rattle.edges.proofs.make_all_good.Tie as tie
+use Rattle.edges.proofs.printed.make_good_from.Statement.{statement}
+use Rattle.edges.proofs.printed.make_good_from.Tie as tie
 
 abbrev Inv-loop : tie.InvT-loop
-Inv-loop rec₀ x₀ rec x = (length rec ≡ length rec₀) × (x ≤ 1024)
+Inv-loop rec₀ first end x₀ rec x = length rec ≡ length rec₀
 
 abbrev μ-loop : tie.MeasureT-loop
-μ-loop rec₀ x₀ rec x = 1024 - x
+μ-loop rec₀ first end x₀ rec x = end - x
 
 loop-holds : tie.Need-loop-holds Inv-loop μ-loop
 loop-holds c = search needs
@@ -33,8 +33,8 @@ same-length c = search needs
 returns : tie.Need-returns Inv-loop μ-loop
 returns c = search needs
 
-pub make-all-good-spec : {M : Type 1} → statement M
-make-all-good-spec =
+pub make-good-from-spec : {M : Type 1} → statement M
+make-good-from-spec =
     tie.close
     (tie.spec
     Inv-loop
