@@ -1,6 +1,7 @@
 // The edges of document 01, and the causes in pairs: where two rows of the table are met at once, the first wins. Each line has the number returned
 // and the six words of the reply buffer, which held 61166 in each before the call.
 mod printed;
+mod relabels;
 
 use printed::buffer;
 use printed::call;
@@ -208,4 +209,5 @@ fn main() {
     largest();
     smallest();
     pairs();
+    relabels::relabels();
 }
