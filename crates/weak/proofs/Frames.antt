@@ -1,9 +1,10 @@
--- The few calls by which the six programs are refuted, and what the history says of them. Assumes nothing.
+-- The few calls by which the worthless programs are refuted, and what the history says of them. Assumes nothing.
 use mathlib.Core.Path.{_≡_, refl}
 use mathlib.Core.List.{List, [], _∷_}
 use mathlib.Core.Logic.{Dec·and, Dec·not}
 use Prim.Native.Nat.{ℕ}
 use native.Mathlib.Decide.{ℕ-discrete, decLe, decLt}
+use lib.ListN.{getD}
 use Rattle.hypercube.specs.Lists.{over, some-of, among, countBelow}
 use Rattle.hypercube.specs.Labels.{label, node, size, assign}
 use Rattle.hypercube.specs.Subcubes.{vertices, freeAt}
@@ -11,8 +12,8 @@ use Rattle.hypercube.specs.Families.{firstFree}
 use Rattle.hypercube.proofs.Decisions.{dec-or, dec-some, dec-every}
 use Rattle.history.specs.Calls.{request, word, kindOf, lengthField, kind, nodeField, job, dimension, strategy}
 use Rattle.history.specs.Causes.{causes}
-use Rattle.history.specs.Verdicts.{granted, refused, firstMet, decided, cause, accept, tell, step, verdict}
-use Rattle.state.specs.declared.Call.the-variants.{Good, Request}
+use Rattle.history.specs.Verdicts.{granted, refused, done, firstMet, decided, cause, accept, tell, step, verdict}
+use Rattle.state.specs.declared.Call.the-variants.{Good, Relabel, Request}
 use Rattle.frames.specs.declared.Parsed.the-variants.{Known}
 use Rattle.frames.specs.Parse.{sized, byKind, parsed}
 use Rattle.cube.specs.Run.{Exchange, Exchanges, begin, _next_, fed, historyAt}
@@ -28,12 +29,19 @@ good x = exchange (6 ∷ 0 ∷ 0x01 ∷ 0x01 ∷ x ∷ 0 ∷ [])
 abbrev pub asks : ℕ → Exchange
 asks j = exchange (8 ∷ 0 ∷ 0x01 ∷ 0x02 ∷ j ∷ 0 ∷ 0 ∷ 0 ∷ [])
 
+abbrev pub relabels : Exchange
+relabels = exchange (4 ∷ 0 ∷ 0x03 ∷ 0x02 ∷ [])
+
 -- one node, or two, good
 abbrev pub one : Exchanges
 one = begin next good 0
 
 abbrev pub two : Exchanges
 two = begin next good 0 next good 1
+
+-- of four nodes two good, across direction 2
+abbrev pub across : Exchanges
+across = begin next good 0 next good 2
 
 pub parsed-0 : parsed (good 0 .frame) ≡ Known (Good (record { 0 = 0 }))
 unfolding parsed byKind sized word kindOf
@@ -43,6 +51,10 @@ pub parsed-1 : parsed (good 1 .frame) ≡ Known (Good (record { 0 = 1 }))
 unfolding parsed byKind sized word kindOf
 parsed-1 = refl
 
+pub parsed-2 : parsed (good 2 .frame) ≡ Known (Good (record { 0 = 2 }))
+unfolding parsed byKind sized word kindOf
+parsed-2 = refl
+
 pub parsed-job-1 : parsed (asks 1 .frame) ≡ Known (Request 1 0 0)
 unfolding parsed byKind sized word kindOf
 parsed-job-1 = refl
@@ -51,20 +63,33 @@ pub parsed-job-2 : parsed (asks 2 .frame) ≡ Known (Request 2 0 0)
 unfolding parsed byKind sized word kindOf
 parsed-job-2 = refl
 
+pub parsed-relabel : parsed (relabels .frame) ≡ Known Relabel
+unfolding parsed byKind sized word kindOf
+parsed-relabel = refl
+
 pub requests : kind (fed (asks 1)) ≡ request
 unfolding kind word kindOf
 requests = refl
 
--- what the history says: a silent node is not granted; a good one is, and is held; of two the second is the second tried
+-- what the history says: a silent node is not granted; a good one is, and is held; of two the second is the second tried; two silent nodes differ in
+-- a direction, and where one of them is good none do; by two silent nodes across direction 2 direction 1 moves to 2
 pub record Told : Type 0 where
   pub silent : verdict 0 (historyAt 0 begin) (fed (asks 1)) ≡ refused 14 1
   pub one-granted : verdict 0 (historyAt 0 one) (fed (asks 1)) ≡ granted 1 0 0 1
   pub one-held : historyAt 0 (one next asks 1) .holder 0 ≡ 1
   pub one-free : historyAt 0 one .holder 0 ≡ 0
-  pub none-held : (historyAt 1 two .holder 0 ≡ 0) × (historyAt 1 two .holder 1 ≡ 0)
+  pub none-held : (x : ℕ) → historyAt 1 two .holder x ≡ 0
   pub first-held : (historyAt 1 (two next asks 1) .holder 0 ≡ 1) × (historyAt 1 (two next asks 1) .holder 1 ≡ 0)
   pub second-granted : verdict 1 (historyAt 1 (two next asks 1)) (fed (asks 2)) ≡ granted 2 1 0 2
   pub second-held : historyAt 1 (two next asks 1 next asks 2) .holder 1 ≡ 2
+  pub both-silent : verdict 1 (historyAt 1 begin) (fed relabels) ≡ done 1
+  pub second-silent : verdict 1 (historyAt 1 one) (fed relabels) ≡ done 0
+  pub first-good : (historyAt 1 one .condition 0 ≡ 1) × (historyAt 1 one .condition 1 ≡ 0)
+  pub first-unheld : (x : ℕ) → historyAt 1 one .holder x ≡ 0
+  pub across-good : (historyAt 2 across .condition 0 ≡ 1) × (historyAt 2 across .condition 1 ≡ 0) × (historyAt 2 across .condition 2 ≡ 1)
+      × (historyAt 2 across .condition 3 ≡ 0)
+  pub across-unheld : (x : ℕ) → historyAt 2 across .holder x ≡ 0
+  pub across-moved : getD (historyAt 2 (across next relabels) .directions) 0 0 ≡ 2
 
 pub told : Told
 unfolding over some-of label node size assign vertices freeAt firstFree dec-or dec-some dec-every word kindOf lengthField kind nodeField job dimension strategy among countBelow causes firstMet decided cause accept tell step verdict Dec·and Dec·not ℕ-discrete decLe decLt
@@ -73,8 +98,15 @@ told = record {
   one-granted = refl;
   one-held = refl;
   one-free = refl;
-  none-held = (refl, refl);
+  none-held = λ x. refl;
   first-held = (refl, refl);
   second-granted = refl;
   second-held = refl;
+  both-silent = refl;
+  second-silent = refl;
+  first-good = (refl, refl);
+  first-unheld = λ x. refl;
+  across-good = (refl, refl, refl, refl);
+  across-unheld = λ x. refl;
+  across-moved = refl;
 }

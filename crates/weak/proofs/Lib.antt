@@ -1,5 +1,6 @@
--- What follows from demand 3; calls made by hand; what a program made of its requests answers; and that each of the six is refuted.
+-- What follows from demand 3; calls made by hand; what a program made of its acts answers; and that each worthless program is refuted.
 pub mod Parts
 pub mod Frames
 pub mod Made
+pub mod Holding
 pub mod Refuted

@@ -1,4 +1,4 @@
--- What a program that differs in its requests answers: as the delivered one, but for a request. Assumes nothing.
+-- What a program answers that differs from the delivered one in what it does on some calls. Assumes nothing.
 use Prim.Native.Nat.{ℕ}
 use mathlib.Core.Path.{_≡_}
 use mathlib.Core.Bool.{true, false}
@@ -6,45 +6,48 @@ use mathlib.Core.List.{List}
 use borrow.Author.Tests.{eq-eqb}
 use lib.Dec.{ltb}
 use lib.ListN.{length}
-use Rattle.state.specs.declared.Call.the-variants.{Good, Request}
-use Rattle.state.specs.Acts.{numberOf, requestStep}
+use Rattle.state.specs.declared.Call.{Call}
+use Rattle.state.specs.Acts.{numberOf, acted}
 use Rattle.record.specs.Layout.{encode, decode, validRecord}
 use Rattle.frames.specs.declared.Parsed.the-variants.{Known}
 use Rattle.frames.specs.Parse.{parsed}
 use Rattle.frames.specs.Answer.{frameOf, written}
+use Rattle.cube.specs.Run.{Exchange}
 use Rattle.cube.specs.Called.{stepOn, callNumber, callRecord, callReply}
-use Rattle.weak.specs.Programs.{Requests, numberBy, recordBy, replyBy}
+use Rattle.weak.specs.Programs.{Acts, numberBy, recordBy, replyBy}
 
--- a report is carried out as by the delivered program
-pub reported : (q : Requests) (r f p : List ℕ) (x : ℕ) → parsed f ≡ Known (Good (record { 0 = x })) → recordBy q r f p ≡ callRecord r f p
+-- a call that does what it does by the delivered program leaves the same record
+pub same-call : (a : Acts) (r : List ℕ) (x : Exchange) (c : Call) → parsed (x .frame) ≡ Known c → a (decode r) c ≡ acted (decode r) c
+    → recordBy a r (x .frame) (x .buffer) ≡ callRecord r (x .frame) (x .buffer)
 unfolding recordBy numberBy callRecord callNumber stepOn
-reported q r f p x e = rw e
+same-call a r x c e s = rw (e, s)
 
--- a request, on a record that is one and with room for a reply
-module _ (q : Requests) (r f p : List ℕ) (j : ℕ) (e : parsed f ≡ Known (Request j 0 0)) (v : validRecord r ≡ true) (room : ltb (length p) 12 ≡ false) where
-  pub number-is : numberBy q r f p ≡ numberOf (q (decode r) j 0 0 .reply)
+-- a call on a record that is one, with room for a reply
+module _ (a : Acts) (r : List ℕ) (x : Exchange) (c : Call) (e : parsed (x .frame) ≡ Known c) (v : validRecord r ≡ true)
+    (room : ltb (length (x .buffer)) 12 ≡ false) where
+  pub number-is : numberBy a r (x .frame) (x .buffer) ≡ numberOf (a (decode r) c .reply)
   unfolding numberBy
   number-is = rw (e, v, room)
 
-  pub reply-is : replyBy q r f p ≡ written (frameOf (q (decode r) j 0 0 .reply)) p
+  pub reply-is : replyBy a r (x .frame) (x .buffer) ≡ written (frameOf (a (decode r) c .reply)) (x .buffer)
   unfolding replyBy
   reply-is = rw (e, v, room)
 
-  pub record-is : numberOf (q (decode r) j 0 0 .reply) ≡ 0 → recordBy q r f p ≡ encode (q (decode r) j 0 0 .state)
+  pub record-is : numberOf (a (decode r) c .reply) ≡ 0 → recordBy a r (x .frame) (x .buffer) ≡ encode (a (decode r) c .state)
   unfolding recordBy
   record-is z = rw (number-is, eq-eqb _ 0 z, e)
 
-  -- what the delivered program's request does
-  pub delivered-number : callNumber r f p ≡ numberOf (requestStep (decode r) j 0 0 .reply)
+  -- what the delivered program does
+  pub delivered-number : callNumber r (x .frame) (x .buffer) ≡ numberOf (acted (decode r) c .reply)
   unfolding callNumber stepOn
   delivered-number = rw (e, v, room)
 
-  pub delivered-reply : callReply r f p ≡ written (frameOf (requestStep (decode r) j 0 0 .reply)) p
+  pub delivered-reply : callReply r (x .frame) (x .buffer) ≡ written (frameOf (acted (decode r) c .reply)) (x .buffer)
   unfolding callReply stepOn
   delivered-reply = rw (e, v, room)
 
   -- one that gives the same number and leaves the same state leaves the same record
-  pub same-record : numberOf (q (decode r) j 0 0 .reply) ≡ numberOf (requestStep (decode r) j 0 0 .reply)
-      → q (decode r) j 0 0 .state ≡ requestStep (decode r) j 0 0 .state → recordBy q r f p ≡ callRecord r f p
+  pub same-record : numberOf (a (decode r) c .reply) ≡ numberOf (acted (decode r) c .reply) → a (decode r) c .state ≡ acted (decode r) c .state
+      → recordBy a r (x .frame) (x .buffer) ≡ callRecord r (x .frame) (x .buffer)
   unfolding recordBy numberBy callRecord callNumber stepOn
-  same-record a s = rw (e, a, s)
+  same-record m s = rw (e, m, s)

@@ -21,7 +21,7 @@ use Rattle.history.specs.Verdicts.{granted}
 use Rattle.history.specs.Held.{without}
 use Rattle.history.proofs.Passed.{passed}
 use Rattle.state.specs.declared.State.{State}
-use Rattle.state.specs.declared.Call.the-variants.{Request}
+use Rattle.state.specs.declared.Call.the-variants.{Good, Request}
 use Rattle.state.specs.declared.Reply.{Reply}
 use Rattle.state.specs.declared.Reply.the-variants.{Granted, Refused, Done}
 use Rattle.state.specs.States.{withHolders, given}
@@ -39,11 +39,12 @@ use Rattle.cube.specs.Demand3.{Demand3}
 use Rattle.steps.proofs.Ways.{state-valid}
 use Rattle.cube.proofs.Heard.{heard-back}
 use Rattle.cube.proofs.Theorem.{demand3}
-use Rattle.weak.specs.Programs.{Requests, by, answers14, unstarted, lowest, unrecorded, firstJob, plausible, anyTried}
+use Rattle.weak.specs.Programs.{Requests, requesting, asking, answers14, unstarted, lowest, unrecorded, firstJob, plausible, anyTried}
 use Rattle.weak.specs.Parts.{NoneFreeRight, RefusalRight, HeldDisjoint, HoldersRight, ReplyRight, Refuted}
 use Rattle.weak.proofs.Parts.{none-free, refusal, disjoint, holders, replied, breaks}
 use Rattle.weak.proofs.Frames.{good, asks, one, two, parsed-0, parsed-1, parsed-job-1, parsed-job-2, requests, told}
-use Rattle.weak.proofs.Made.{reported, number-is, reply-is, record-is, delivered-number, delivered-reply, same-record}
+use Rattle.weak.proofs.Holding.{dimension-of, none-held, some-held}
+use Rattle.weak.proofs.Made.{same-call, number-is, reply-is, record-is, delivered-number, delivered-reply, same-record}
 
 -- rows before others are not met where none is
 front : (h : History) (c : Call) (rs ts : List Row) → NoneMet (rs ++ ts) h c → NoneMet rs h c
@@ -67,7 +68,8 @@ stays-valid s z v j =
       permutes = v .permutes;
       conditions = v .conditions;
       no-conditions = v .no-conditions;
-      no-holders = λ x h l. getD-each (λ x. cond (among x (vertices width 0 0)) j (getD (s .holders) x 0)) 0 1024 x l ∙ other x h ∙ v .no-holders x h l;
+      no-holders = λ x h l.
+          getD-each (λ x. cond (among x (vertices width 0 0)) j (getD (s .holders) x 0)) 0 1024 x l ∙ other x h ∙ v .no-holders x h l;
     }
   where
     t : State
@@ -79,33 +81,18 @@ stays-valid s z v j =
     other : (x : ℕ) → 2 ^ s .n ≤ x → cond (among x (vertices width 0 0)) j (getD (s .holders) x 0) ≡ getD (s .holders) x 0
     other x h = rw (elsewhere x (lt-of-lt-of-le (pow-pos (s .n)) h))
 
-dimension-of : (r : List ℕ) → decode r .n ≡ getD r 4 0
-unfolding decode
-dimension-of r = refl
-
 -- a plausible 'tried' keeps the number, and is not the true one of the second member
 same-number : (a : Reply) → numberOf (plausible a) ≡ numberOf a
 same-number (Granted j low stars t) = refl
 same-number (Refused m t) = refl
 same-number (Done v) = refl
 
-tried-two : (a : Reply) (p : List ℕ) → written (frameOf a) p ≡ replies (granted 2 1 0 2) p → written (frameOf (plausible a)) p ≡ replies (granted 2 1 0 2) p → ⊥
+tried-two : (a : Reply) (p : List ℕ) → written (frameOf a) p ≡ replies (granted 2 1 0 2) p
+    → written (frameOf (plausible a)) p ≡ replies (granted 2 1 0 2) p → ⊥
 unfolding frameOf words word
 tried-two (Granted j low stars t) p e w = let same : _≡_ {A = ℕ} 1 2 = ap (λ (p : List ℕ). word p 10) w in absurd (omega arith)
 tried-two (Refused m t) p e w = let same : _≡_ {A = ℕ} 0x8002 0x8001 = ap (λ (p : List ℕ). word p 2) e in absurd (omega arith)
 tried-two (Done v) p e w = let same : _≡_ {A = ℕ} 0x8003 0x8001 = ap (λ (p : List ℕ). word p 2) e in absurd (omega arith)
-
--- whether a node of two is held
-module _ (s : State) (n : s .n ≡ 1) where
-  two-of : anyHeld s ≡ (not (eqb (getD (s .holders) 0 0) 0) || not (eqb (getD (s .holders) 1 0) 0))
-  unfolding anyBelow
-  two-of = rw n
-
-  of-two : getD (s .holders) 0 0 ≡ 0 → getD (s .holders) 1 0 ≡ 0 → anyHeld s ≡ false
-  of-two h k = rw (two-of, h, k)
-
-  one-of : getD (s .holders) 0 0 ≡ 1 → anyHeld s ≡ true
-  one-of h = rw (two-of, h)
 
 module _ (b : List ℕ) (whole : length b ≡ 3088) where
   one-node : Demand3 delivered 0 b
@@ -116,27 +103,29 @@ module _ (b : List ℕ) (whole : length b ≡ 3088) where
 
   -- the record before the first request is the delivered program's
   module _ (q : Requests) where
-    at-one : recordAfter (by q) 0 b one ≡ recordAfter delivered 0 b one
-    at-one = reported q _ (good 0 .frame) (good 0 .buffer) 0 parsed-0
+    at-one : recordAfter (asking q) 0 b one ≡ recordAfter delivered 0 b one
+    at-one = same-call (requesting q) _ (good 0) (Good (record { 0 = 0 })) parsed-0 refl
 
-    at-first : recordAfter (by q) 1 b (begin next good 0) ≡ recordAfter delivered 1 b (begin next good 0)
-    at-first = reported q _ (good 0 .frame) (good 0 .buffer) 0 parsed-0
+    at-first : recordAfter (asking q) 1 b (begin next good 0) ≡ recordAfter delivered 1 b (begin next good 0)
+    at-first = same-call (requesting q) _ (good 0) (Good (record { 0 = 0 })) parsed-0 refl
 
-    at-two : recordAfter (by q) 1 b two ≡ recordAfter delivered 1 b two
-    at-two = reported q _ (good 1 .frame) (good 1 .buffer) 1 parsed-1 ∙ ap (λ (r : List ℕ). delivered .call-record r (good 1 .frame) (good 1 .buffer)) at-first
+    at-two : recordAfter (asking q) 1 b two ≡ recordAfter delivered 1 b two
+    at-two =
+        same-call (requesting q) _ (good 1) (Good (record { 0 = 1 })) parsed-1 refl
+        ∙ ap (λ (r : List ℕ). delivered .call-record r (good 1 .frame) (good 1 .buffer)) at-first
 
-    valid-one : validRecord (recordAfter (by q) 0 b one) ≡ true
+    valid-one : validRecord (recordAfter (asking q) 0 b one) ≡ true
     valid-one = rw at-one (one-node .recorded one .valid)
 
     -- and after it, where it is told the same number and leaves the same state
-    module _ (s : State) (e : decode (recordAfter (by q) 1 b two) ≡ s) (a : numberOf (q s 1 0 0 .reply) ≡ numberOf (requestStep s 1 0 0 .reply))
+    module _ (s : State) (e : decode (recordAfter (asking q) 1 b two) ≡ s) (a : numberOf (q s 1 0 0 .reply) ≡ numberOf (requestStep s 1 0 0 .reply))
         (left : q s 1 0 0 .state ≡ requestStep s 1 0 0 .state) where
-      at-later : recordAfter (by q) 1 b (two next asks 1) ≡ recordAfter delivered 1 b (two next asks 1)
+      at-later : recordAfter (asking q) 1 b (two next asks 1) ≡ recordAfter delivered 1 b (two next asks 1)
       at-later =
-          same-record q _ (asks 1 .frame) (asks 1 .buffer) 1 parsed-job-1 (rw at-two (two-nodes .recorded two .valid)) refl (rw e a) (rw e left)
+          same-record (requesting q) _ (asks 1) (Request 1 0 0) parsed-job-1 (rw at-two (two-nodes .recorded two .valid)) refl (rw e a) (rw e left)
           ∙ ap (λ (r : List ℕ). delivered .call-record r (asks 1 .frame) (asks 1 .buffer)) at-two
 
-      valid-later : validRecord (recordAfter (by q) 1 b (two next asks 1)) ≡ true
+      valid-later : validRecord (recordAfter (asking q) 1 b (two next asks 1)) ≡ true
       valid-later = rw at-later (two-nodes .recorded (two next asks 1) .valid)
 
   -- ---- a free member exists
@@ -144,40 +133,44 @@ module _ (b : List ℕ) (whole : length b ≡ 3088) where
   none-met : NoneMet (causes 0) (historyAt 0 one) (fed (asks 1))
   none-met = one-node .calls one (asks 1) .accepted-by-none .0 (one-node .calls one (asks 1) .returned ∙ ap returns (told .one-granted))
 
-  says-14 : (q : Requests) → ((s : State) → numberOf (q s 1 0 0 .reply) ≡ 14) → ¬ NoneFreeRight (by q) 0 b
+  says-14 : (q : Requests) → ((s : State) → numberOf (q s 1 0 0 .reply) ≡ 14) → ¬ NoneFreeRight (asking q) 0 b
   says-14 q e claim =
       passed 0 (historyAt 0 one) (fed (asks 1)) none-met .some-free requests
-      (claim one (asks 1) requests (earlier-none 0 _ _ none-met) (number-is q _ (asks 1 .frame) (asks 1 .buffer) 1 parsed-job-1 (valid-one q) refl ∙ e _))
+      (claim one (asks 1) requests (earlier-none 0 _ _ none-met)
+      (number-is (requesting q) _ (asks 1) (Request 1 0 0) parsed-job-1 (valid-one q) refl ∙ e _))
 
   -- ---- 'tried' of a walk unstarted
 
-  tried-wrong : ¬ RefusalRight (by unstarted) 0 b
+  tried-wrong : ¬ RefusalRight (asking unstarted) 0 b
   unfolding word words frameOf over strategy dimension
   tried-wrong claim =
-      let refuses = one-node .calls begin (asks 1) .refused-by-first 14 (λ z. absurd (omega arith)) .0 (one-node .calls begin (asks 1) .returned ∙ ap returns (told .silent)) in
-      let said = reply-is unstarted _ (asks 1 .frame) (asks 1 .buffer) 1 parsed-job-1 (one-node .recorded begin .valid) refl in
+      let judged = one-node .calls begin (asks 1) in
+      let refuses = judged .refused-by-first 14 (λ z. absurd (omega arith)) .0 (judged .returned ∙ ap returns (told .silent)) in
+      let said = reply-is (requesting unstarted) _ (asks 1) (Request 1 0 0) parsed-job-1 (one-node .recorded begin .valid) refl in
       let same : _≡_ {A = ℕ} 0 1 = ap (λ (p : List ℕ). word p 6) (sym said ∙ claim begin (asks 1) 14 refuses) in
       absurd (omega arith)
 
   -- ---- disjoint
 
-  told-lowest : (es : Exchanges) → validRecord (recordAfter (by lowest) 0 b es) ≡ true → (j : ℕ) → parsed (asks j .frame) ≡ Known (Request j 0 0)
-      → heard (number (by lowest) 0 b es (asks j)) (reply (by lowest) 0 b es (asks j)) ≡ granted j 0 0 1
+  told-lowest : (es : Exchanges) → validRecord (recordAfter (asking lowest) 0 b es) ≡ true → (j : ℕ) → parsed (asks j .frame) ≡ Known (Request j 0 0)
+      → heard (number (asking lowest) 0 b es (asks j)) (reply (asking lowest) 0 b es (asks j)) ≡ granted j 0 0 1
   unfolding frameOf
   told-lowest es v j e =
-      ap₂ heard (number-is lowest _ (asks j .frame) (asks j .buffer) j e v refl) (reply-is lowest _ (asks j .frame) (asks j .buffer) j e v refl)
+      ap₂ heard (number-is (requesting lowest) _ (asks j) (Request j 0 0) e v refl) (reply-is (requesting lowest) _ (asks j) (Request j 0 0) e v refl)
       ∙ heard-back (granted j 0 0 1) (asks j .buffer) tt
 
-  valid-next : validRecord (recordAfter (by lowest) 0 b (one next asks 1)) ≡ true
+  valid-next : validRecord (recordAfter (asking lowest) 0 b (one next asks 1)) ≡ true
   valid-next =
-      let r = recordAfter (by lowest) 0 b one in
-      rw (record-is lowest r (asks 1 .frame) (asks 1 .buffer) 1 parsed-job-1 (valid-one lowest) refl refl)
+      let r = recordAfter (asking lowest) 0 b one in
+      rw (record-is (requesting lowest) r (asks 1) (Request 1 0 0) parsed-job-1 (valid-one lowest) refl refl)
       (stays-valid (decode r) (sized-decode r) (state-valid r (valid-one lowest)) 1)
 
-  lowest-wrong : ¬ HeldDisjoint (by lowest) 0 b
+  lowest-wrong : ¬ HeldDisjoint (asking lowest) 0 b
   unfolding without vertices
   lowest-wrong claim =
-      let d = rw (told-lowest one (valid-one lowest) 1 parsed-job-1, told-lowest (one next asks 1) valid-next 2 parsed-job-2) at (claim (one next asks 1 next asks 2)) in
+      let first = told-lowest one (valid-one lowest) 1 parsed-job-1 in
+      let second = told-lowest (one next asks 1) valid-next 2 parsed-job-2 in
+      let d = rw (first, second) at (claim (one next asks 1 next asks 2)) in
       d .0 _ (inl refl) 0 (inl refl) (inl refl)
 
   -- ---- the record after the call
@@ -186,74 +179,78 @@ module _ (b : List ℕ) (whole : length b ≡ 3088) where
   kept : (r : List ℕ) (x : ℕ) → x < 1024 → word (encode (decode r)) (16 + 2 * x) ≡ word r (16 + 2 * x)
   kept r x h = encode-holder (decode r) (sized-decode r) x h ∙ decode-holder r x h
 
-  record-wrong : ¬ HoldersRight (by unrecorded) 0 b
+  record-wrong : ¬ HoldersRight (asking unrecorded) 0 b
   record-wrong claim =
-      let r = recordAfter (by unrecorded) 0 b one in
+      let r = recordAfter (asking unrecorded) 0 b one in
       let v = valid-one unrecorded in
       let accepted : numberOf (requestStep (decode r) 1 0 0 .reply) ≡ 0 =
-      sym (delivered-number unrecorded r (asks 1 .frame) (asks 1 .buffer) 1 parsed-job-1 v refl)
+      sym (delivered-number (requesting unrecorded) r (asks 1) (Request 1 0 0) parsed-job-1 v refl)
       ∙ ap (λ (r : List ℕ). delivered .call-number r (asks 1 .frame) (asks 1 .buffer)) (at-one unrecorded)
       ∙ one-node .calls one (asks 1) .returned ∙ ap returns (told .one-granted) in
-      let left : word (recordAfter (by unrecorded) 0 b (one next asks 1)) 16 ≡ 0 =
-      ap (λ (r : List ℕ). word r 16) (record-is unrecorded r (asks 1 .frame) (asks 1 .buffer) 1 parsed-job-1 v refl accepted)
-      ∙ kept r 0 (omega arith) ∙ ap (λ (r : List ℕ). word r 16) (at-one unrecorded) ∙ one-node .recorded one .holders 0 (omega arith) ∙ told .one-free in
+      let left : word (recordAfter (asking unrecorded) 0 b (one next asks 1)) 16 ≡ 0 =
+      ap (λ (r : List ℕ). word r 16) (record-is (requesting unrecorded) r (asks 1) (Request 1 0 0) parsed-job-1 v refl accepted)
+      ∙ kept r 0 (omega arith) ∙ ap (λ (r : List ℕ). word r 16) (at-one unrecorded)
+      ∙ one-node .recorded one .holders 0 (omega arith) ∙ told .one-free in
       let same : _≡_ {A = ℕ} 0 1 = sym left ∙ claim (one next asks 1) 0 (omega arith) ∙ told .one-held in
       absurd (omega arith)
 
   -- ---- over the list
 
-  over-list-wrong : ¬ HoldersRight (by firstJob) 1 b
+  over-list-wrong : ¬ HoldersRight (asking firstJob) 1 b
   over-list-wrong claim =
       let later = two next asks 1 in
       let g = asks 2 .frame in
       let p = asks 2 .buffer in
       let before = two-nodes .recorded two in
       let after = two-nodes .recorded later in
-      let none : anyHeld (decode (recordAfter (by firstJob) 1 b two)) ≡ false =
+      let none : anyHeld (decode (recordAfter (asking firstJob) 1 b two)) ≡ false =
       rw (at-two firstJob)
-      (of-two (decode (recordAfter delivered 1 b two)) (dimension-of _ ∙ before .dimension)
-      (decode-holder _ 0 (omega arith) ∙ before .holders 0 (omega arith) ∙ told .none-held .0)
-      (decode-holder _ 1 (omega arith) ∙ before .holders 1 (omega arith) ∙ told .none-held .1)) in
+      (none-held (decode (recordAfter delivered 1 b two)) (λ x h.
+      let l : x < 2 = rw (dimension-of (recordAfter delivered 1 b two), before .dimension) at h in
+      decode-holder _ x (omega arith) ∙ before .holders x l ∙ told .none-held x)) in
       let same = at-later firstJob _ refl (rw none refl) (rw none refl) in
       let v = valid-later firstJob _ refl (rw none refl) (rw none refl) in
-      let r = recordAfter (by firstJob) 1 b later in
+      let r = recordAfter (asking firstJob) 1 b later in
       let some : anyHeld (decode r) ≡ true =
       rw same
-      (one-of (decode (recordAfter delivered 1 b later)) (dimension-of _ ∙ after .dimension)
+      (some-held (decode (recordAfter delivered 1 b later)) 0 (pow-pos _)
       (decode-holder _ 0 (omega arith) ∙ after .holders 0 (omega arith) ∙ told .first-held .0)) in
       let accepted : numberOf (firstJob (decode r) 2 0 0 .reply) ≡ 0 =
-      (rw some refl) ∙ sym (delivered-number firstJob r g p 2 parsed-job-2 v refl) ∙ ap (λ (r : List ℕ). delivered .call-number r g p) same
+      (rw some refl) ∙ sym (delivered-number (requesting firstJob) r (asks 2) (Request 2 0 0) parsed-job-2 v refl)
+      ∙ ap (λ (r : List ℕ). delivered .call-number r g p) same
       ∙ two-nodes .calls later (asks 2) .returned ∙ ap returns (told .second-granted) in
-      let left : word (recordAfter (by firstJob) 1 b (later next asks 2)) 18 ≡ 0 =
-      ap (λ (r : List ℕ). word r 18) (record-is firstJob r g p 2 parsed-job-2 v refl accepted) ∙ (rw some (kept r 1 (omega arith)))
+      let left : word (recordAfter (asking firstJob) 1 b (later next asks 2)) 18 ≡ 0 =
+      ap (λ (r : List ℕ). word r 18) (record-is (requesting firstJob) r (asks 2) (Request 2 0 0) parsed-job-2 v refl accepted)
+      ∙ (rw some (kept r 1 (omega arith)))
       ∙ ap (λ (r : List ℕ). word r 18) same ∙ after .holders 1 (omega arith) ∙ told .first-held .1 in
       let wrong : _≡_ {A = ℕ} 0 2 = sym left ∙ claim (later next asks 2) 1 (omega arith) ∙ told .second-held in
       absurd (omega arith)
 
   -- ---- place in the order
 
-  tried-of-two : ¬ ReplyRight (by anyTried) 1 b
+  tried-of-two : ¬ ReplyRight (asking anyTried) 1 b
   tried-of-two claim =
       let later = two next asks 1 in
       let g = asks 2 .frame in
       let p = asks 2 .buffer in
-      let number = same-number (requestStep (decode (recordAfter (by anyTried) 1 b two)) 1 0 0 .reply) in
+      let number = same-number (requestStep (decode (recordAfter (asking anyTried) 1 b two)) 1 0 0 .reply) in
       let same = at-later anyTried _ refl number refl in
       let v = valid-later anyTried _ refl number refl in
-      let r = recordAfter (by anyTried) 1 b later in
+      let r = recordAfter (asking anyTried) 1 b later in
       let right = ap (λ v. replies v p) (told .second-granted) in
       tried-two (requestStep (decode r) 2 0 0 .reply) p
-      (sym (delivered-reply anyTried r g p 2 parsed-job-2 v refl) ∙ ap (λ (r : List ℕ). delivered .call-reply r g p) same
+      (sym (delivered-reply (requesting anyTried) r (asks 2) (Request 2 0 0) parsed-job-2 v refl)
+      ∙ ap (λ (r : List ℕ). delivered .call-reply r g p) same
       ∙ two-nodes .calls later (asks 2) .replied ∙ right)
-      (sym (reply-is anyTried r g p 2 parsed-job-2 v refl) ∙ claim later (asks 2) ∙ right)
+      (sym (reply-is (requesting anyTried) r (asks 2) (Request 2 0 0) parsed-job-2 v refl) ∙ claim later (asks 2) ∙ right)
 
   pub refuted : Refuted b
   refuted = record {
-    a-free-member-exists = breaks NoneFreeRight none-free (by answers14) 0 b (says-14 answers14 (λ s. refl));
-    unstarted-free = breaks NoneFreeRight none-free (by unstarted) 0 b (says-14 unstarted (λ s. refl));
-    unstarted-tried = breaks RefusalRight refusal (by unstarted) 0 b tried-wrong;
-    not-disjoint = breaks HeldDisjoint disjoint (by lowest) 0 b lowest-wrong;
-    record-unchanged = breaks HoldersRight holders (by unrecorded) 0 b record-wrong;
-    over-the-list = breaks HoldersRight holders (by firstJob) 1 b over-list-wrong;
-    place-in-the-order = breaks ReplyRight replied (by anyTried) 1 b tried-of-two;
+    a-free-member-exists = breaks NoneFreeRight none-free (asking answers14) 0 b (says-14 answers14 (λ s. refl));
+    unstarted-free = breaks NoneFreeRight none-free (asking unstarted) 0 b (says-14 unstarted (λ s. refl));
+    unstarted-tried = breaks RefusalRight refusal (asking unstarted) 0 b tried-wrong;
+    not-disjoint = breaks HeldDisjoint disjoint (asking lowest) 0 b lowest-wrong;
+    record-unchanged = breaks HoldersRight holders (asking unrecorded) 0 b record-wrong;
+    over-the-list = breaks HoldersRight holders (asking firstJob) 1 b over-list-wrong;
+    place-in-the-order = breaks ReplyRight replied (asking anyTried) 1 b tried-of-two;
   }

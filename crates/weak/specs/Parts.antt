@@ -10,7 +10,7 @@ use Rattle.history.specs.Held.{Disjoint}
 use Rattle.cube.specs.Called.{Program}
 use Rattle.cube.specs.Demand3.{Demand3}
 use Rattle.cube.specs.Run.{Exchange, Exchanges, fed, replies, recordAfter, number, reply, heldAt, historyAt}
-use Rattle.weak.specs.Programs.{by, answers14, unstarted, lowest, unrecorded, firstJob, anyTried}
+use Rattle.weak.specs.Programs.{asking, answers14, unstarted, lowest, unrecorded, firstJob, anyTried}
 
 module _ (P : Program) (n : ℕ) (b : List ℕ) where
   -- 3: 'none free' is said only where no member is free
@@ -45,10 +45,10 @@ pub record Breaks (Part : Program → ℕ → List ℕ → Type 0) (P : Program)
 
 -- on any buffer of the record's size, b
 pub record Refuted (b : List ℕ) : Type 0 where
-  pub a-free-member-exists : Breaks NoneFreeRight (by answers14) 0 b
-  pub unstarted-free : Breaks NoneFreeRight (by unstarted) 0 b
-  pub unstarted-tried : Breaks RefusalRight (by unstarted) 0 b
-  pub not-disjoint : Breaks HeldDisjoint (by lowest) 0 b
-  pub record-unchanged : Breaks HoldersRight (by unrecorded) 0 b
-  pub over-the-list : Breaks HoldersRight (by firstJob) 1 b
-  pub place-in-the-order : Breaks ReplyRight (by anyTried) 1 b
+  pub a-free-member-exists : Breaks NoneFreeRight (asking answers14) 0 b
+  pub unstarted-free : Breaks NoneFreeRight (asking unstarted) 0 b
+  pub unstarted-tried : Breaks RefusalRight (asking unstarted) 0 b
+  pub not-disjoint : Breaks HeldDisjoint (asking lowest) 0 b
+  pub record-unchanged : Breaks HoldersRight (asking unrecorded) 0 b
+  pub over-the-list : Breaks HoldersRight (asking firstJob) 1 b
+  pub place-in-the-order : Breaks ReplyRight (asking anyTried) 1 b

@@ -22,34 +22,42 @@ use Rattle.frames.specs.Parse.{parsed}
 use Rattle.frames.specs.Answer.{frameOf, written}
 use Rattle.cube.specs.Called.{Program, setupNumber, setupRecord}
 
+-- what a call does to a state
+abbrev pub Acts : Type 0
+Acts = State → Call → Step
+
+abbrev pub stepBy : Acts → State → Parsed → Step
+stepBy a s (Known c) = a s c
+stepBy a s (Bad m) = refuse s m
+
+unfoldable pub numberBy : Acts → List ℕ → List ℕ → List ℕ → ℕ
+numberBy a r f p = cond (validRecord r) (cond (ltb (length p) 12) 2 (numberOf (stepBy a (decode r) (parsed f) .reply))) 1
+
+unfoldable pub recordBy : Acts → List ℕ → List ℕ → List ℕ → List ℕ
+recordBy a r f p = cond (eqb (numberBy a r f p) 0) (encode (stepBy a (decode r) (parsed f) .state)) r
+
+unfoldable pub replyBy : Acts → List ℕ → List ℕ → List ℕ → List ℕ
+replyBy a r f p = cond (validRecord r) (cond (ltb (length p) 12) p (written (frameOf (stepBy a (decode r) (parsed f) .reply)) p)) p
+
+-- the program that does this on a call
+abbrev pub by : Acts → Program
+by a = record { setup-number = setupNumber; setup-record = setupRecord; call-number = numberBy a; call-record = recordBy a; call-reply = replyBy a }
+
 -- what a request by job j for dimension k under strategy f does to a state
 abbrev pub Requests : Type 0
 Requests = State → ℕ → ℕ → ℕ → Step
 
 -- the program that does this on a request, and is otherwise the delivered one
-abbrev pub actedBy : Requests → State → Call → Step
-actedBy q s (Good x) = acted s (Good x)
-actedBy q s (Fault x) = acted s (Fault x)
-actedBy q s (Repaired x) = acted s (Repaired x)
-actedBy q s Relabel = acted s Relabel
-actedBy q s (Request j k f) = q s j k f
-actedBy q s (Release j) = acted s (Release j)
+abbrev pub requesting : Requests → Acts
+requesting q s (Good x) = acted s (Good x)
+requesting q s (Fault x) = acted s (Fault x)
+requesting q s (Repaired x) = acted s (Repaired x)
+requesting q s Relabel = acted s Relabel
+requesting q s (Request j k f) = q s j k f
+requesting q s (Release j) = acted s (Release j)
 
-abbrev pub stepBy : Requests → State → Parsed → Step
-stepBy q s (Known c) = actedBy q s c
-stepBy q s (Bad m) = refuse s m
-
-unfoldable pub numberBy : Requests → List ℕ → List ℕ → List ℕ → ℕ
-numberBy q r f p = cond (validRecord r) (cond (ltb (length p) 12) 2 (numberOf (stepBy q (decode r) (parsed f) .reply))) 1
-
-unfoldable pub recordBy : Requests → List ℕ → List ℕ → List ℕ → List ℕ
-recordBy q r f p = cond (eqb (numberBy q r f p) 0) (encode (stepBy q (decode r) (parsed f) .state)) r
-
-unfoldable pub replyBy : Requests → List ℕ → List ℕ → List ℕ → List ℕ
-replyBy q r f p = cond (validRecord r) (cond (ltb (length p) 12) p (written (frameOf (stepBy q (decode r) (parsed f) .reply)) p)) p
-
-abbrev pub by : Requests → Program
-by q = record { setup-number = setupNumber; setup-record = setupRecord; call-number = numberBy q; call-record = recordBy q; call-reply = replyBy q }
+abbrev pub asking : Requests → Program
+asking q = by (requesting q)
 
 -- "answers 14 to each request"
 abbrev pub answers14 : Requests
