@@ -4,3 +4,4 @@ pub mod Frames
 pub mod Made
 pub mod Holding
 pub mod Refuted
+pub mod Relabels

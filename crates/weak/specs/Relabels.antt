@@ -1,0 +1,56 @@
+-- Document 02, (b): "Relabelling shall take D over all nodes that aren't good." Three programs that take it over others, and so break demand 3.
+use Prim.Native.Nat.{ℕ, _+_, _<_}
+use mathlib.Core.Path.{_≡_}
+use mathlib.Core.Bool.{Bool, not, cond}
+use mathlib.Core.List.{List}
+use lib.Dec.{eqb}
+use lib.ListN.{getD}
+use Rattle.hypercube.specs.Labels.{differing, size, relabelled}
+use Rattle.labels.specs.Relabelling.{notGood}
+use Rattle.state.specs.declared.State.{State}
+use Rattle.state.specs.declared.Call.the-variants.{Good, Fault, Repaired, Relabel, Request, Release}
+use Rattle.state.specs.declared.Reply.the-variants.{Done}
+use Rattle.state.specs.declared.Step.{Step}
+use Rattle.state.specs.States.{withMap}
+use Rattle.state.specs.Acts.{step, refuse, anyHeld, acted}
+use Rattle.cube.specs.Called.{Program}
+use Rattle.cube.specs.Run.{Exchanges, recordAfter, historyAt}
+use Rattle.weak.specs.Programs.{Acts, by}
+use Rattle.weak.specs.Parts.{ReplyRight, Breaks}
+
+-- a test of the conditions: which nodes D is taken over
+abbrev pub Over : Type 0
+Over = List ℕ → ℕ → Bool
+
+-- a relabel whose map is by one D, and whose reply by another
+abbrev pub relabelOver : Over → Over → State → Step
+relabelOver mapped sized s =
+    cond (anyHeld s) (refuse s 13)
+    (step (withMap s (relabelled (s .n) (mapped (s .conditions)))) (Done (size (differing (s .n) (sized (s .conditions))))))
+
+-- the program that relabels so, and is otherwise the delivered one
+abbrev pub relabelling : Over → Over → Acts
+relabelling mapped sized s (Good x) = acted s (Good x)
+relabelling mapped sized s (Fault x) = acted s (Fault x)
+relabelling mapped sized s (Repaired x) = acted s (Repaired x)
+relabelling mapped sized s Relabel = relabelOver mapped sized s
+relabelling mapped sized s (Request j k f) = acted s (Request j k f)
+relabelling mapped sized s (Release j) = acted s (Release j)
+
+-- those reported faulty
+abbrev pub faultyOnly : Over
+faultyOnly cs x = eqb (getD cs x 0) 2
+
+-- those not reported faulty: silent and good ones
+abbrev pub notFaulty : Over
+notFaulty cs x = not (eqb (getD cs x 0) 2)
+
+-- 2 and 3: the record's map is the history's
+abbrev pub MapRight : Program → ℕ → List ℕ → Type 0
+MapRight P n b = (es : Exchanges) (i : ℕ) → i < n → getD (recordAfter P n b es) (5 + i) 0 ≡ getD (historyAt n es .directions) i 0
+
+-- on any buffer of the record's size, b: the size of D is told wrong; it is told right and the map is wrong
+pub record RelabelsRefuted (b : List ℕ) : Type 0 where
+  pub over-faulty : Breaks ReplyRight (by (relabelling faultyOnly faultyOnly)) 1 b
+  pub over-not-faulty : Breaks ReplyRight (by (relabelling notFaulty notFaulty)) 1 b
+  pub map-over-faulty : Breaks MapRight (by (relabelling faultyOnly notGood)) 2 b
