@@ -1,11 +1,14 @@
 //! The writer of random logs. It leans to document 01's edges and keeps a
-//! cube at work: many nodes good, few jobs, few faults that lie close by.
+//! cube at work: many nodes good, few jobs, those that aren't good close by.
 
-use std::collections::VecDeque;
+use std::collections::{BTreeSet, VecDeque};
 use std::io::{self, Write};
 
+use crate::frame::{self, Call};
+use crate::health::Health;
 use crate::log::SETUP;
 use crate::noise::{self, frame, report, Frame};
+use crate::record::{self, setup, Record, FAULTY, GOOD, SIZE, UNCONFIRMED};
 use crate::rng::Rng;
 
 /// Jobs that come beside the small ones: the last, and a byte full or empty.
@@ -14,11 +17,14 @@ const EDGE_JOBS: [u16; 3] = [65535, 256, 255];
 /// Writes a log of `frames` frames, the set-up included; n is the seed's
 /// remainder by 11. One log in four ends in a frame whose length is wrong.
 pub fn write_log(seed: u64, frames: u64, mut output: impl Write) -> io::Result<()> {
-    let mut log = Log::new(seed, frames);
+    let n = (seed % 11) as u16;
+    let mut record = [0; SIZE];
+    setup(&mut record, n.into());
+    let mut log = Log::new(seed, frames, &record);
     for place in 1..=frames {
         let frame = match place {
-            1 => frame(SETUP, &(log.n as u16).to_le_bytes()),
-            _ if place == frames && log.rng.one_in(4) => noise::broken(&mut log.rng),
+            1 => frame(SETUP, &n.to_le_bytes()),
+            _ if place == frames => log.last(),
             _ => log.next(),
         };
         output.write_all(&frame)?;
@@ -26,41 +32,82 @@ pub fn write_log(seed: u64, frames: u64, mut output: impl Write) -> io::Result<(
     output.flush()
 }
 
+/// The frames of a random list of calls on a record that passes refusal 1.
+pub fn list(seed: u64, count: u64, record: &Record) -> Vec<Frame> {
+    let mut log = Log::new(seed, count, record);
+    (1..=count).map(|place| if place == count { log.last() } else { log.next() }).collect()
+}
+
 struct Log {
     rng: Rng,
     n: u32,
     /// Jobs 1 to `jobs` do most of the work.
     jobs: u32,
-    /// Faulty nodes mostly differ from `centre` within `spread`.
-    centre: u32,
-    spread: u32,
-    /// Reports of a fault not yet followed by a repair, at most `sick_most`.
-    sick: Vec<u32>,
-    sick_most: usize,
+    /// Jobs that may hold nodes.
+    asked: BTreeSet<u16>,
+    /// The cube is drained and relabelled once in so many times.
+    drained: u32,
+    health: Health,
+    /// At most so many nodes are made faulty one by one.
+    faulty_most: usize,
     /// Frames that are to come in this order.
     plan: VecDeque<Frame>,
 }
 
 impl Log {
-    fn new(seed: u64, frames: u64) -> Log {
-        let n = (seed % 11) as u32;
+    fn new(seed: u64, frames: u64, record: &Record) -> Log {
+        let n = record::dimension(record);
         let mut rng = Rng::new(seed);
         let jobs = 1 + rng.below(24.min(2 << n));
-        let sick_most = rng.below(8) as usize;
-        let (sick, plan) = (Vec::new(), VecDeque::new());
-        let mut log = Log { rng, n, jobs, centre: 0, spread: 0, sick, sick_most, plan };
-        log.move_faults();
-        log.wake(frames / 2);
+        let holders = (0..1 << n).map(|node| record::holder(record, node));
+        let asked = holders.filter(|job| *job != 0).collect();
+        let drained = rng.pick(&[12, 50]);
+        let faulty_most = rng.below(8) as usize;
+        let health = Health::new(&mut rng, record::conditions(record));
+        let mut log =
+            Log { rng, n, jobs, asked, drained, health, faulty_most, plan: VecDeque::new() };
+        if log.health.is_silent() || (log.health.is_wild() && log.rng.one_in(2)) {
+            log.wake(frames);
+        }
+        if !log.rng.one_in(4) {
+            log.drain();
+        }
         log
     }
 
     fn next(&mut self) -> Frame {
-        if !self.rng.one_in(16) {
-            if let Some(frame) = self.plan.pop_front() {
-                return frame;
-            }
+        let planned = if self.rng.one_in(16) { None } else { self.plan.pop_front() };
+        let frame = planned.unwrap_or_else(|| self.any());
+        if let Ok(call) = frame::read(&frame) {
+            self.note(call);
         }
-        match self.rng.below(100) {
+        frame
+    }
+
+    fn note(&mut self, call: Call) {
+        match call {
+            Call::Good { node } => self.health.note(node, GOOD),
+            Call::Fault { node } => self.health.note(node, FAULTY),
+            Call::Repaired { node } => self.health.note(node, UNCONFIRMED),
+            Call::Request { job, .. } if job != 0 => drop(self.asked.insert(job)),
+            Call::Release { job } => drop(self.asked.remove(&job)),
+            _ => {}
+        }
+    }
+
+    fn last(&mut self) -> Frame {
+        if self.rng.one_in(4) {
+            return noise::broken(&mut self.rng);
+        }
+        self.next()
+    }
+
+    fn any(&mut self) -> Frame {
+        if self.rng.one_in(self.drained) {
+            self.drain();
+            return self.release();
+        }
+        match self.rng.below(98) {
             0..42 => self.request(),
             42..66 => self.release(),
             66..76 => self.good(),
@@ -68,35 +115,28 @@ impl Log {
             84..86 => report(0x0103, self.rng.below(1 << self.n)),
             86..89 => frame(0x0203, &[]),
             89..91 => self.later_setup(),
-            91..98 => noise::malformed(&mut self.rng),
-            _ => self.drain(),
+            _ => noise::malformed(&mut self.rng),
         }
     }
 
-    /// Plans 'good' for as many nodes as it may, and leaves some out by the
-    /// seed. A stretch that is short of the whole cube takes neighbours.
-    fn wake(&mut self, most: u64) {
+    /// Plans 'good' for every node if that leaves a third of the frames,
+    /// otherwise for neighbours, and mostly leaves some out, in the area alone
+    /// or anywhere. A relabel of the cube as it is comes first at times.
+    fn wake(&mut self, frames: u64) {
         let nodes = 1 << self.n;
-        let count = most.min(nodes.into()) as u32;
-        let whole = count == nodes;
+        let whole = u64::from(nodes) <= frames * 2 / 3;
+        let count = if whole { nodes } else { (frames / 2).min(nodes.into()) as u32 };
         let step = if whole { self.rng.below(nodes) | 1 } else { 1 };
         let start = self.rng.below(nodes) & !15;
-        let silent = self.rng.pick(&[0, 0, 64, 8, 2]);
+        let left_out = self.rng.pick(&[(0, 0), (2, 0), (2, 0), (2, 0), (64, 64), (8, 8), (2, 2)]);
+        if self.rng.one_in(4) {
+            self.plan.push_back(frame(0x0203, &[]));
+        }
         for i in 0..count {
-            if silent == 0 || !self.rng.one_in(silent) {
-                let node = (start + i * step) % nodes;
+            let node = (start + i * step) % nodes;
+            if !self.health.area.hits(&mut self.rng, node, left_out) {
                 self.plan.push_back(report(0x0101, node));
             }
-        }
-    }
-
-    /// Chooses where the next faults lie.
-    fn move_faults(&mut self) {
-        let nodes = 1 << self.n;
-        self.centre = self.rng.below(nodes);
-        self.spread = self.rng.below(nodes) & self.rng.below(nodes);
-        if self.rng.one_in(8) {
-            self.spread = nodes - 1;
         }
     }
 
@@ -149,44 +189,37 @@ impl Log {
     /// A fault while few nodes are faulty, otherwise a repair; a repaired
     /// node is mostly reported good next.
     fn fault_or_repair(&mut self) -> Frame {
-        if self.sick.len() < self.sick_most && !self.rng.one_in(3) {
+        let faulty = self.health.faulty();
+        if faulty.len() < self.faulty_most && !self.rng.one_in(3) {
             let node = match self.rng.below(16) {
                 0 => self.node(),
-                _ => self.centre ^ (self.rng.number() as u32 & self.spread),
+                _ => self.health.area.node(&mut self.rng),
             };
-            if node < 1 << self.n {
-                self.sick.push(node);
-            }
             return report(0x0102, node);
         }
-        if self.sick.is_empty() {
+        if faulty.is_empty() {
             let node = self.node();
             return report(0x0103, node);
         }
-        let at = self.rng.below(self.sick.len() as u32) as usize;
-        let node = self.sick.swap_remove(at);
+        let node = self.rng.pick(&faulty);
         if !self.rng.one_in(4) {
             self.plan.push_back(report(0x0101, node));
         }
         report(0x0103, node)
     }
 
-    /// Plans a release by each job, perhaps a few faults and repairs, and a
-    /// relabel.
-    fn drain(&mut self) -> Frame {
-        for job in (1..=self.jobs as u16).chain(EDGE_JOBS) {
+    /// Plans reports, a release by each job that may hold nodes, and a
+    /// relabel. What a refused release leaves held is tried again at times.
+    fn drain(&mut self) {
+        let reports = self.health.settle(&mut self.rng);
+        self.plan.extend(reports);
+        for job in std::mem::take(&mut self.asked) {
             self.plan.push_back(frame(0x0202, &job.to_le_bytes()));
         }
-        if self.rng.one_in(2) {
-            self.move_faults();
-        }
-        for _ in 0..self.rng.below(4) {
-            let at = self.plan.len();
-            let next = self.fault_or_repair();
-            self.plan.insert(at, next);
+        if self.rng.one_in(8) {
+            self.asked = (1..=self.jobs as u16).chain(EDGE_JOBS).collect();
         }
         self.plan.push_back(frame(0x0203, &[]));
-        self.release()
     }
 
     fn later_setup(&mut self) -> Frame {

@@ -11,9 +11,11 @@
 pub mod call;
 pub mod choose;
 pub mod cube;
+pub mod drawn;
 pub mod family;
 pub mod frame;
 pub mod gen;
+pub mod health;
 pub mod log;
 mod noise;
 pub mod record;

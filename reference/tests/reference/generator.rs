@@ -3,8 +3,12 @@
 use std::collections::BTreeMap;
 use std::process::Command;
 
+use cube_reference::call;
+use cube_reference::drawn::{Drawn, List};
 use cube_reference::gen::write_log;
 use cube_reference::log::run;
+
+use crate::support::{at, Cube};
 
 const SEEDS: u64 = 44;
 const FRAMES: u64 = 1000;
@@ -88,6 +92,45 @@ fn met(start: &[u8], words: &str) -> usize {
         }
     }
     count
+}
+
+/// The frames of a log after its set-up; a broken end comes as it is.
+fn frames(log: &[u8]) -> Vec<&[u8]> {
+    let (mut frames, mut rest) = (Vec::new(), &log[6..]);
+    while !rest.is_empty() {
+        let length = if rest.len() < 4 { 0 } else { usize::from(at(rest, 0)) };
+        let taken = if (4..=rest.len()).contains(&length) { length } else { rest.len() };
+        frames.push(&rest[..taken]);
+        rest = &rest[taken..];
+    }
+    frames
+}
+
+/// What logs of 3000 frames draw for each n, eight logs each.
+fn drawn() -> [Drawn; 11] {
+    let mut drawn = [Drawn::default(); 11];
+    for seed in 0..88 {
+        let mut log = Vec::new();
+        write_log(seed, 3000, &mut log).unwrap();
+        let (mut cube, mut list) = (Cube::new((seed % 11) as u32), List::default());
+        for frame in frames(&log) {
+            if call(&mut cube.record, frame, &mut [0; 12]) == 0 {
+                list.add(frame, cube.record[..].try_into().unwrap());
+            }
+        }
+        drawn[(seed % 11) as usize] += list.drawn;
+    }
+    drawn
+}
+
+/// Silent and faulty nodes together make a D that is neither empty nor all n,
+/// and grants follow.
+#[test]
+fn relabels_are_drawn_with_every_kind_of_d() {
+    for (n, drawn) in drawn().into_iter().enumerate() {
+        assert!(drawn.empty >= 20 && (n == 0 || drawn.all >= 20), "n {n}: {drawn:?}");
+        assert!(n < 2 || drawn.mixed >= 20 && drawn.after_mixed >= 40, "n {n}: {drawn:?}");
+    }
 }
 
 #[test]

@@ -1,6 +1,6 @@
 //! Calls compared with a plain account of them, as document 01's history is.
 
-use cube_reference::gen::write_log;
+use cube_reference::gen::list;
 use cube_reference::rng::Rng;
 use cube_reference::{call, family};
 
@@ -177,25 +177,12 @@ fn is_free(low: u32, stars: u32, free: &[bool]) -> bool {
     is_free(low, stars - highest, free) && is_free(low + highest, stars - highest, free)
 }
 
-/// The frames of a log after its set-up; a broken end comes as it is.
-fn frames(log: &[u8]) -> Vec<&[u8]> {
-    let (mut frames, mut rest) = (Vec::new(), &log[6..]);
-    while !rest.is_empty() {
-        let length = if rest.len() < 4 { 0 } else { usize::from(at(rest, 0)) };
-        let taken = if (4..=rest.len()).contains(&length) { length } else { rest.len() };
-        frames.push(&rest[..taken]);
-        rest = &rest[taken..];
-    }
-    frames
-}
-
-/// Makes the calls on the record and in the history, and compares the number,
-/// the reply and the whole record after each.
+/// Makes the calls of a random list on the record and in the history, and
+/// compares the number, the reply and the whole record after each.
 fn compare(history: &mut History, seed: u64, count: u64, rng: &mut Rng) {
-    let mut log = Vec::new();
-    write_log(seed, count, &mut log).unwrap();
     let mut record = history.record();
-    for frame in frames(&log) {
+    let list = list(seed, count, record[..].try_into().unwrap());
+    for frame in &list {
         let length = rng.pick(&[12, 12, 12, 12, 12, 12, 13, 40, 11, 0]);
         let (number, words) = history.call(frame, length);
         let mut expected = vec![0xcc; length];

@@ -1,0 +1,75 @@
+//! What random lists of calls draw: the D of accepted relabels, and grants by
+//! the maps that these set.
+
+use std::ops::AddAssign;
+
+use crate::cube::{relabel, IDENTITY};
+use crate::frame::{self, Call};
+use crate::record::{self, Record, FAULTY, GOOD, UNCONFIRMED};
+
+/// Counts for one n.
+#[derive(Clone, Copy, Debug, Default)]
+pub struct Drawn {
+    /// Accepted relabels whose D is empty, is all n, or is neither.
+    pub empty: u64,
+    pub all: u64,
+    pub between: u64,
+    /// Those of `between` whose D is neither that of the silent nodes alone
+    /// nor that of the faulty ones alone.
+    pub mixed: u64,
+    /// Grants while the map isn't the identity.
+    pub moved: u64,
+    /// Those of `moved` where such a mixed relabel set the map.
+    pub after_mixed: u64,
+}
+
+impl AddAssign for Drawn {
+    fn add_assign(&mut self, other: Drawn) {
+        self.empty += other.empty;
+        self.all += other.all;
+        self.between += other.between;
+        self.mixed += other.mixed;
+        self.moved += other.moved;
+        self.after_mixed += other.after_mixed;
+    }
+}
+
+/// One list of calls on a cube.
+#[derive(Default)]
+pub struct List {
+    pub drawn: Drawn,
+    /// Whether the map is that of a mixed relabel.
+    mixed: bool,
+}
+
+impl List {
+    /// Counts an accepted call, given the record after it.
+    pub fn add(&mut self, frame: &[u8], record: &Record) {
+        match frame::read(frame) {
+            Ok(Call::Relabel) => self.add_relabel(record),
+            Ok(Call::Request { .. }) => {
+                let moved = record::map(record) != IDENTITY;
+                self.drawn.moved += u64::from(moved);
+                self.drawn.after_mixed += u64::from(moved && self.mixed);
+            }
+            _ => {}
+        }
+    }
+
+    fn add_relabel(&mut self, record: &Record) {
+        let n = record::dimension(record);
+        let conditions = record::conditions(record);
+        let size = |is_such: fn(u8) -> bool| {
+            let nodes = conditions.iter().zip(0..).filter(|(condition, _)| is_such(**condition));
+            relabel(n, nodes.map(|(_, node)| node)).1
+        };
+        let d = size(|condition| condition != GOOD);
+        let between = d != 0 && d != n;
+        let alone = [size(|condition| condition == UNCONFIRMED), size(|c| c == FAULTY)];
+        self.mixed = between && !alone.contains(&d);
+        self.drawn.empty += u64::from(d == 0);
+        self.drawn.all += u64::from(d == n && n != 0);
+        self.drawn.between += u64::from(between);
+        self.drawn.mixed += u64::from(self.mixed);
+    }
+}
