@@ -1,32 +1,32 @@
 //! What is fed: frames, reply buffers and records, right and wrong.
 
-use cube_reference::gen::write_log;
-use cube_reference::record::SIZE;
+use cube_reference::gen;
+use cube_reference::health::Area;
+use cube_reference::record::{is_valid, Record, GOOD, SIZE};
 use cube_reference::rng::Rng;
+
+/// Where a record's conditions are.
+const CONDITIONS: usize = 2064;
 
 pub fn bytes(rng: &mut Rng, count: usize) -> Vec<u8> {
     (0..count).map(|_| rng.number() as u8).collect()
 }
 
-/// The frames of a random log without its set-up. A seed's remainder by 11 is
-/// the dimension that they lean to.
-pub fn frames(seed: u64, count: u64) -> Vec<Vec<u8>> {
-    let mut log = Vec::new();
-    write_log(seed, count + 1, &mut log).expect("a vector takes every byte");
-    let mut frames = Vec::new();
-    let mut rest = &log[6..];
-    while rest.len() >= 2 {
-        let length = usize::from(u16::from_le_bytes([rest[0], rest[1]]));
-        let length = length.clamp(1, rest.len());
-        frames.push(rest[..length].to_vec());
-        rest = &rest[length..];
+/// The frames of a random list for a record; for a damaged one they are those
+/// for a fresh cube of dimension n.
+pub fn frames(rng: &mut Rng, seed: u64, n: u32, record: &[u8]) -> Vec<Vec<u8>> {
+    let mut cube = [0; SIZE];
+    assert_eq!(cube_reference::setup(&mut cube, n), 0);
+    match <&Record>::try_from(record) {
+        Ok(record) if is_valid(record) => cube = *record,
+        _ => {}
     }
-    frames
+    gen::list(seed, 60 + u64::from(rng.below(400)), &cube)
 }
 
 /// A frame from the log as it is, or cut, lengthened or noise.
 pub fn bent(rng: &mut Rng, frame: &[u8]) -> Vec<u8> {
-    match rng.below(40) {
+    match rng.below(80) {
         0 => frame[..rng.below(frame.len() as u32 + 1) as usize].to_vec(),
         1 => [frame, &bytes(rng, 3)].concat(),
         2 => {
@@ -61,17 +61,23 @@ fn sized(rng: &mut Rng) -> Vec<u8> {
 /// Mostly 12 bytes; also every length below, and longer ones, whose tails
 /// must stay.
 pub fn reply(rng: &mut Rng) -> Vec<u8> {
-    let length = match rng.below(16) {
+    let length = match rng.below(32) {
         0 => rng.below(12),
-        1..4 => 12 + rng.below(30),
-        4 if rng.one_in(16) => 4096,
+        1..7 => 12 + rng.below(30),
+        7 if rng.one_in(8) => 4096,
         _ => 12,
     };
     bytes(rng, length as usize)
 }
 
+/// Once in how many times a node has any condition, in a small subcube and
+/// outside it; otherwise it is good. 0 is never.
+const ANY: [(u32, u32); 11] =
+    [(1, 0), (1, 0), (1, 0), (1, 0), (2, 0), (2, 0), (2, 0), (2, 0), (1, 1), (2, 2), (8, 8)];
+
 /// A record as "Node and record" says, which perhaps no list of calls leaves:
-/// any holders and conditions below 2^n, any map.
+/// any map, any holders or none below 2^n, and any conditions there or in a
+/// small subcube alone, the other nodes being good.
 pub fn valid_record(rng: &mut Rng, n: u32) -> Vec<u8> {
     let mut record = vec![0; SIZE];
     assert_eq!(cube_reference::setup(&mut record, n), 0);
@@ -80,12 +86,12 @@ pub fn valid_record(rng: &mut Rng, n: u32) -> Vec<u8> {
         record.swap(5 + i, 5 + j);
     }
     let jobs = 1 + rng.below(6);
-    let busy = rng.pick(&[1, 2, 4, 16, 1000]);
-    let good = rng.pick(&[1, 2, 8]);
+    let busy = rng.pick(&[0, 0, 0, 1, 2, 4, 16, 1000]);
+    let (area, any) = (Area::any(rng, n), rng.pick(&ANY));
     for node in 0..1usize << n {
-        let condition = if rng.one_in(good) { rng.below(3) as u8 } else { 1 };
-        record[2064 + node] = condition;
-        if rng.one_in(busy) {
+        let is_any = area.hits(rng, node as u32, any);
+        record[CONDITIONS + node] = if is_any { rng.below(3) as u8 } else { GOOD };
+        if busy != 0 && rng.one_in(busy) {
             let job = match rng.below(8) {
                 0 => 65535,
                 _ => rng.below(jobs + 1) as u16,

@@ -4,11 +4,14 @@
 
 mod input;
 mod pair;
+mod seen;
 
+use cube_reference::drawn::List;
 use cube_reference::record::SIZE;
 use cube_reference::rng::Rng;
 
 use pair::Pair;
+use seen::Seen;
 
 const CALLS: u64 = 200_000;
 const SEED: u64 = 1;
@@ -18,7 +21,7 @@ fn main() {
     let calls = words.next().unwrap_or(CALLS);
     let first = words.next().unwrap_or(SEED);
     let (mut made, mut seed) = (0, first);
-    let mut seen = [0u64; 15];
+    let mut seen = Seen::default();
     while made < calls {
         match list(seed, &mut seen) {
             Ok(count) => made += count,
@@ -30,22 +33,23 @@ fn main() {
         seed += 1;
     }
     println!(
-        "{made} calls of {} lists from seed {first} compared, no difference; by number {seen:?}",
+        "{made} calls of {} lists from seed {first} compared, no difference; {seen}",
         seed - first
     );
-    if made >= CALLS && seen.iter().any(|&count| count < 20) {
-        println!("some number was met under 20 times");
+    if let (true, Some(rare)) = (made >= CALLS, seen.rare()) {
+        println!("{rare}");
         std::process::exit(1);
     }
 }
 
-/// One list of calls; the seed's remainder by 11 is n. Two lists of five start
-/// at a record that set-up did not leave, one of ten at a damaged one.
-fn list(seed: u64, seen: &mut [u64; 15]) -> Result<u64, String> {
+/// One list of calls; the seed's remainder by 11 is n. Seven lists of ten start
+/// at a record that set-up did not leave, one at a damaged one.
+fn list(seed: u64, seen: &mut Seen) -> Result<u64, String> {
     let n = (seed % 11) as u32;
     let rng = &mut Rng::new(seed ^ 0x5ca1_ab1e);
     let mut pair = start(rng, n)?;
-    let frames = input::frames(seed, 60 + u64::from(rng.below(400)));
+    let frames = input::frames(rng, seed, n, &pair.reference);
+    let mut list = List::default();
     for (place, frame) in frames.iter().enumerate() {
         let frame = input::bent(rng, frame);
         let reply = input::reply(rng);
@@ -56,8 +60,12 @@ fn list(seed: u64, seen: &mut [u64; 15]) -> Result<u64, String> {
                 reply.len()
             )
         })?;
-        seen[number as usize] += 1;
+        seen.numbers[number as usize] += 1;
+        if let (0, Ok(record)) = (number, pair.reference[..].try_into()) {
+            list.add(&frame, record);
+        }
     }
+    seen.drawn[n as usize] += list.drawn;
     Ok(frames.len() as u64)
 }
 
@@ -67,7 +75,7 @@ fn start(rng: &mut Rng, n: u32) -> Result<Pair, String> {
             let record = input::valid_record(rng, n);
             Ok(Pair::new(input::damaged(rng, record)))
         }
-        1..5 => Ok(Pair::new(input::valid_record(rng, n))),
+        1..8 => Ok(Pair::new(input::valid_record(rng, n))),
         _ => fresh(rng, n),
     }
 }
