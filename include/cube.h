@@ -27,6 +27,12 @@
  *                                D, else 0
  * Reply bytes past the frame keep their values.
  *
+ * A relabel makes the map from D, the directions in which any two nodes below
+ * 2^n that aren't good differ. A node that never reported, or was repaired and
+ * not reported good since, isn't good. D's directions, ascending, map to 1, 2,
+ * .., the others, ascending, to what follows; if D is empty or holds all n,
+ * each direction maps to itself.
+ *
  * Returned: 0 if the call was accepted, else the number of the first cause
  * that it meets, in this order:
  *    1  the record is not one                      record and reply untouched
