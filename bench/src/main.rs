@@ -39,7 +39,7 @@ fn lines(rows: &[Row]) -> Vec<Line> {
     let line = |(row, times): (&Row, &Times)| Line {
         name: row.to_string(),
         unit: "ns",
-        refused: row.answer(proved::call).0 != 0,
+        refused: row.after(proved::call).iter().any(|after| after.0 != 0),
         took: times.of_calls(),
         second: times.median(),
     };

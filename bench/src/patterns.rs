@@ -188,7 +188,8 @@ fn rows(n: u32, pattern: &Pattern, map: &Map, used: &[Record]) -> Vec<Row> {
         };
         let relabelled = if *map == IDENTITY { "" } else { ", relabelled" };
         let request = format!("{}, k {k}, {outcome}", STRATEGIES[strategy]);
-        Row { name: format!("{}{relabelled}, {request}", pattern.name), n, start, call }
+        let name = format!("{}{relabelled}, {request}", pattern.name);
+        Row { name, n, starts: vec![start], call }
     };
     all.map(row).collect()
 }

@@ -10,19 +10,25 @@ pub type Call = fn(&mut [u8], &[u8], &mut [u8]) -> u32;
 
 pub type Record = [u8; 3088];
 
-/// A call that is timed, each time on the same record.
+/// A call that is timed on each of these records in turn: often on one alone.
 pub struct Row {
     pub name: String,
     pub n: u32,
-    pub start: Record,
+    pub starts: Vec<Record>,
     pub call: Vec<u8>,
 }
 
+/// Number, reply and record after a call.
+pub type After = (u32, [u8; 12], Record);
+
 impl Row {
-    /// The number and the reply that a program gives.
-    pub fn answer(&self, program: Call) -> (u32, [u8; 12]) {
-        let (mut record, mut reply) = (self.start, [0; 12]);
-        (program(&mut record, &self.call, &mut reply), reply)
+    /// What a program makes of each record.
+    pub fn after(&self, program: Call) -> Vec<After> {
+        let after = |start: &Record| {
+            let (mut record, mut reply) = (*start, [0; 12]);
+            (program(&mut record, &self.call, &mut reply), reply, record)
+        };
+        self.starts.iter().map(after).collect()
     }
 }
 
@@ -39,7 +45,7 @@ fn row(name: &str, n: u32, before: Vec<Vec<u8>>, call: Vec<u8>) -> Row {
     for frame in before {
         reference::call(&mut start, &frame, &mut [0; 12]);
     }
-    Row { name: name.to_string(), n, start, call }
+    Row { name: name.to_string(), n, starts: vec![start], call }
 }
 
 /// All nodes good.
