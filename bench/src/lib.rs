@@ -4,6 +4,7 @@ pub mod limit;
 pub mod options;
 pub mod parts;
 pub mod patterns;
+pub mod relabels;
 pub mod rows;
 pub mod time;
 mod words;

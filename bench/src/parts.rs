@@ -1,8 +1,8 @@
 //! All rows, in parts.
 
 use crate::options::Options;
-use crate::patterns;
 use crate::rows::{self, Row};
+use crate::{patterns, relabels};
 
 /// Rows with a title, and whether each of them is of interest by itself.
 pub struct Part {
@@ -11,12 +11,16 @@ pub struct Part {
     pub each: bool,
 }
 
+/// The dimensions at which each call is timed.
+const SOME: [u32; 3] = [4, 7, 10];
+
 /// The rows of each sort of call.
 fn calls() -> Vec<Part> {
     let part = |title: &str, rows| Part { title: title.to_string(), rows, each: true };
     vec![
-        part("each call", [4, 7, 10].into_iter().flat_map(rows::calls).collect()),
-        part("on a relabelled cube", [4, 7, 10].into_iter().map(rows::relabelled).collect()),
+        part("each call", SOME.into_iter().flat_map(rows::calls).collect()),
+        part("relabel by what isn't good", SOME.into_iter().flat_map(relabels::rows).collect()),
+        part("on a relabelled cube", SOME.into_iter().map(rows::relabelled).collect()),
         part("how cost grows with n", (0..=10).flat_map(rows::grown).collect()),
     ]
 }

@@ -57,7 +57,8 @@ fn goods(n: u32) -> Vec<Vec<u8>> {
 /// dimension and get the first member.
 pub fn calls(n: u32) -> Vec<Row> {
     let last = (1 << n) - 1;
-    let faults = vec![fault(0), fault(last)];
+    let faults = [goods(n), vec![fault(0), fault(last)]].concat();
+    let held = vec![good(last), request(7, 0, 0)];
     let mut rows = vec![
         row("report good", n, vec![], good(last)),
         row("report fault", n, vec![], fault(0)),
@@ -65,6 +66,7 @@ pub fn calls(n: u32) -> Vec<Row> {
         row("refused frame (4)", n, vec![], frame(0x0999, &[0, 0])),
         row("refused node (8)", n, vec![], good(1 << n)),
         row("refused release (11)", n, goods(n), release(7)),
+        row("refused relabel (13)", n, held, relabel()),
         row("relabel", n, faults, relabel()),
     ];
     for (strategy, name) in STRATEGIES.iter().enumerate() {
@@ -82,10 +84,14 @@ fn nothing_free(n: u32, k: u32, strategy: usize) -> Row {
     row(&name, n, vec![], request(7, k as u8, strategy as u8))
 }
 
-/// A request on a relabelled cube, the map not being the identity.
+/// A request on a relabelled cube, the map not being the identity: of two nodes
+/// across direction n one is silent and one faulty.
 pub fn relabelled(n: u32) -> Row {
-    let before = [goods(n), vec![fault(0), fault(1 << (n - 1)), relabel()]].concat();
-    row("request granted, relabelled", n, before, request(7, n as u8 / 2, 0))
+    let reports = [fault(0), repaired(0), fault(1 << (n - 1)), relabel()];
+    let before = [goods(n), reports.to_vec()].concat();
+    let row = row("request granted, relabelled", n, before, request(7, n as u8 / 2, 0));
+    assert_ne!(reference::record::map(&row.starts[0]), reference::IDENTITY, "{row}");
+    row
 }
 
 /// What is followed from n to n: one call of each sort.
