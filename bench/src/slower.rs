@@ -39,15 +39,26 @@ fn print(row: &Row, times: &Times) {
     println!("{row:74} {:>8.0} ns {:>9.0} {ratio:>6.2}", took[0], took[1]);
 }
 
+/// The rows that both builds answer alike, and how many there are besides;
+/// these are named and not timed.
+fn by_answer(rows: Vec<Row>) -> (Vec<Row>, usize) {
+    let (same, others): (Vec<_>, Vec<_>) =
+        rows.into_iter().partition(|row| row.after(NEWER) == row.after(OLDER));
+    others.iter().for_each(|row| println!("{row:74} answered differently"));
+    (same, others.len())
+}
+
 fn main() -> ExitCode {
     let options = Options::read();
-    let mut ratios = Vec::new();
+    let (mut ratios, mut other) = (Vec::new(), 0);
     let title = if options.all { "all rows" } else { "slower by more than a tenth" };
     println!("{title:74} {:>11} {:>9} {:>6}", "newer", "older", "ratio");
     for part in parts::all(&options) {
         let in_doubt = |times: &Times| times.slower() > TENTH;
-        let times = time::times(&part.rows, |_| vec![NEWER, OLDER], in_doubt);
-        for (row, times) in part.rows.iter().zip(times) {
+        let (rows, others) = by_answer(part.rows);
+        other += others;
+        let times = time::times(&rows, |_| vec![NEWER, OLDER], in_doubt);
+        for (row, times) in rows.iter().zip(times) {
             if options.all || times.slower() > TENTH {
                 print(row, &times);
             }
@@ -57,6 +68,7 @@ fn main() -> ExitCode {
     ratios.sort_by(f64::total_cmp);
     let slower = ratios.iter().filter(|ratio| **ratio > TENTH).count();
     let median = ratios.get(ratios.len() / 2).unwrap_or(&1.0);
-    println!("{} rows, {slower} slower by more than a tenth; median {median:.2}", ratios.len());
+    print!("{} rows, {slower} slower by more than a tenth; median {median:.2}", ratios.len());
+    println!("; {other} more are answered differently");
     ExitCode::from(u8::from(slower > 0))
 }
