@@ -68,7 +68,8 @@ module _ (b : List ℕ) (whole : length b ≡ 3088) where
 
     -- and the record's map is by the program's other D
     moved : (i : ℕ) → i < 10
-        → getD (recordAfter (by (relabelling mapped sized)) n b (es next relabels)) (5 + i) 0 ≡ getD (relabelled n (mapped (decode r .conditions))) i 0
+        → getD (recordAfter (by (relabelling mapped sized)) n b (es next relabels)) (5 + i) 0
+        ≡ getD (relabelled n (mapped (decode r .conditions))) i 0
     moved i h =
         let z = sized-decode r in
         let stored = record-is (relabelling mapped sized) r relabels Relabel parsed-relabel (kept .recorded es .valid) refl (rw none refl) in
