@@ -11,7 +11,7 @@ ghost use Rattle.state.specs.Acts.{called};
 pub fn call_on(s: State, c: Call) -> Step
     ensures { λ r. ⌜ r ≡ called s c ⌝ }
 {
-    let mut bytes = [0; 3088];
+    let mut bytes = [0; record::SIZE];
     record::store(s, &mut bytes);
     if !record::is_valid(&bytes) {
         return Step {

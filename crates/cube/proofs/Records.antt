@@ -12,14 +12,15 @@ use Rattle.state.proofs.Valid.{means-valid}
 use Rattle.record.proofs.Round.{length-encode, encode-n, valid-encode, encode-map, encode-holder, encode-condition}
 use Rattle.cube.specs.Demand3.{Recorded}
 use Rattle.cube.proofs.Answers.{Stands, valid-stands}
+use Rattle.record.specs.Layout.{conditionsAt, holdersAt, recordSize}
 
 -- the bytes r are the history's at every place
 record Reads (n : ℕ) (h : History) (r : List ℕ) : Type 0 where
-  whole : length r ≡ 3088
+  whole : length r ≡ recordSize
   dimension : getD r 4 0 ≡ n
   directions : (i : ℕ) → i < 10 → getD r (5 + i) 0 ≡ getD (h .directions) i 0
-  holders : (x : ℕ) → x < 1024 → word r (16 + 2 * x) ≡ h .holder x
-  conditions : (x : ℕ) → x < 1024 → getD r (2064 + x) 0 ≡ h .condition x
+  holders : (x : ℕ) → x < 1024 → word r (holdersAt + 2 * x) ≡ h .holder x
+  conditions : (x : ℕ) → x < 1024 → getD r (conditionsAt + x) 0 ≡ h .condition x
 
 reads : {n : ℕ} {h : History} {r : List ℕ} → Stands n h r → Reads n h r
 reads S =

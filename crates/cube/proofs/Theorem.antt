@@ -20,6 +20,7 @@ use Rattle.cube.proofs.Heard.{heard-back}
 use Rattle.cube.proofs.Answers.{Stands, Answers, answers}
 use Rattle.cube.proofs.Judge.{judged}
 use Rattle.cube.proofs.Records.{recorded}
+use Rattle.record.specs.Layout.{recordSize}
 
 -- an array of zeros
 zeros : (k x : ℕ) → entry (replicate k 0) x ≡ 0
@@ -27,7 +28,7 @@ zeros zero x = refl
 zeros (suc k) zero = refl
 zeros (suc k) (suc x) = zeros k x
 
-module _ (n : ℕ) (small : n ≤ 10) (b : List ℕ) (whole : length b ≡ 3088) where
+module _ (n : ℕ) (small : n ≤ 10) (b : List ℕ) (whole : length b ≡ recordSize) where
   accepted : setupNumber b n ≡ 0
   unfolding setupNumber
   accepted = rw (whole, le-leb n 10 small)
@@ -72,5 +73,5 @@ module _ (n : ℕ) (small : n ≤ 10) (b : List ℕ) (whole : length b ≡ 3088)
     held = λ es. subst (HeldRight n fresh (feed es)) (sym (held-is es)) (history-right n small (feed es) .held-right);
   }
 
-pub demand3 : (n : ℕ) → n ≤ 10 → (b : List ℕ) → length b ≡ 3088 → Demand3 delivered n b
+pub demand3 : (n : ℕ) → n ≤ 10 → (b : List ℕ) → length b ≡ recordSize → Demand3 delivered n b
 demand3 = right

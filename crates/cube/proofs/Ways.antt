@@ -12,7 +12,7 @@ use Rattle.state.specs.declared.Reply.{Reply}
 use Rattle.state.specs.declared.Reply.the-variants.{Refused}
 use Rattle.state.specs.States.{freshState}
 use Rattle.state.specs.Acts.{numberOf}
-use Rattle.record.specs.Layout.{encode, validRecord}
+use Rattle.record.specs.Layout.{recordSize, encode, validRecord}
 use Rattle.record.proofs.Round.{record-says, encode-decode}
 use Rattle.frames.specs.declared.Parsed.{Parsed}
 use Rattle.frames.specs.declared.Parsed.the-variants.{Bad}
@@ -25,11 +25,11 @@ use Rattle.cube.specs.Carried.{CarriedFrame}
 -- ---- set-up
 
 module _ (r : List ℕ) (n : ℕ) where
-  pub setup-1 : length r ≢ 3088 → SetUp delivered r n 1 r
+  pub setup-1 : length r ≢ recordSize → SetUp delivered r n 1 r
   unfolding setupRecord setupNumber
   setup-1 h = record { returned = rw (ne-eqb _ _ h); «record» = rw (ne-eqb _ _ h) }
 
-  module _ (long : length r ≡ 3088) where
+  module _ (long : length r ≡ recordSize) where
     pub setup-7 : 10 < n → SetUp delivered r n 7 r
     unfolding setupRecord setupNumber
     setup-7 h = record { returned = rw (eq-eqb _ _ long, lt-leb n 10 h); «record» = rw (eq-eqb _ _ long, lt-leb n 10 h) }

@@ -8,14 +8,14 @@ use lib.ListN.{length}
 use Rattle.state.specs.declared.Step.{Step}
 use Rattle.state.specs.States.{freshState}
 use Rattle.state.specs.Acts.{numberOf}
-use Rattle.record.specs.Layout.{encode, decode, validRecord}
+use Rattle.record.specs.Layout.{recordSize, encode, decode, validRecord}
 use Rattle.frames.specs.Parse.{parsed}
 pub use Rattle.frames.specs.Parse.{stepOf}
 use Rattle.frames.specs.Answer.{frameOf, written}
 
 -- "Set-up gives 1 for a buffer that isn't 3088 bytes, before 7."
 unfoldable pub setupNumber : List ℕ → ℕ → ℕ
-setupNumber r n = cond (eqb (length r) 3088) (cond (leb n 10) 0 7) 1
+setupNumber r n = cond (eqb (length r) recordSize) (cond (leb n 10) 0 7) 1
 
 unfoldable pub setupRecord : List ℕ → ℕ → List ℕ
 setupRecord r n = cond (eqb (setupNumber r n) 0) (encode (freshState n)) r

@@ -13,7 +13,7 @@ use Rattle.history.specs.Account.{History, fresh, AllFree}
 use Rattle.history.specs.Causes.{First, NoneMet, NoMemberFree, asked, earlier, causes}
 use Rattle.history.specs.Verdicts.{granted, refused, tried, verdict}
 use Rattle.history.specs.Claims.{HeldRight}
-use Rattle.record.specs.Layout.{validRecord}
+use Rattle.record.specs.Layout.{conditionsAt, holdersAt, recordSize, validRecord}
 use Rattle.cube.specs.Called.{Program}
 use Rattle.cube.specs.Run.{Exchange, Exchanges, _next_, fed, feed, returns, replies, recordAfter, number, reply, heldAt, historyAt}
 
@@ -42,15 +42,15 @@ pub record Judged (n : ℕ) (h : History) (e : Exchange) (m : ℕ) (p′ r r′ 
 -- the record's bytes r are the history's: "its holders and conditions are compared below 2^n and its map up to n, and entries of these beyond that
 -- stay as set-up left them", in r₀
 pub record Recorded (n : ℕ) (h : History) (r₀ r : List ℕ) : Type 0 where
-  pub whole : length r ≡ 3088
+  pub whole : length r ≡ recordSize
   pub valid : validRecord r ≡ true
   pub dimension : getD r 4 0 ≡ n
   pub directions : (i : ℕ) → i < n → getD r (5 + i) 0 ≡ getD (h .directions) i 0
-  pub holders : (x : ℕ) → x < 2 ^ n → word r (16 + 2 * x) ≡ h .holder x
-  pub conditions : (x : ℕ) → x < 2 ^ n → getD r (2064 + x) 0 ≡ h .condition x
+  pub holders : (x : ℕ) → x < 2 ^ n → word r (holdersAt + 2 * x) ≡ h .holder x
+  pub conditions : (x : ℕ) → x < 2 ^ n → getD r (conditionsAt + x) 0 ≡ h .condition x
   pub directions-beyond : (i : ℕ) → n ≤ i → i < 10 → getD r (5 + i) 0 ≡ getD r₀ (5 + i) 0
-  pub holders-beyond : (x : ℕ) → 2 ^ n ≤ x → x < 1024 → word r (16 + 2 * x) ≡ word r₀ (16 + 2 * x)
-  pub conditions-beyond : (x : ℕ) → 2 ^ n ≤ x → x < 1024 → getD r (2064 + x) 0 ≡ getD r₀ (2064 + x) 0
+  pub holders-beyond : (x : ℕ) → 2 ^ n ≤ x → x < 1024 → word r (holdersAt + 2 * x) ≡ word r₀ (holdersAt + 2 * x)
+  pub conditions-beyond : (x : ℕ) → 2 ^ n ≤ x → x < 1024 → getD r (conditionsAt + x) 0 ≡ getD r₀ (conditionsAt + x) 0
 
 -- of the program P, for a cube of dimension n set up on the buffer b: every list of calls, and every call after it
 pub record Demand3 (P : Program) (n : ℕ) (b : List ℕ) : Type 0 where

@@ -13,7 +13,7 @@ ghost use Rattle.cube.specs.Carried.{CarriedFrame};
 pub extern "C" fn cube_setup(rec: &mut [u8], n: u32) -> u32
     ensures { λ m. ⌜ SetUp delivered (now (rec .entry)) n m (now (rec .exit)) ⌝ }
 {
-    if rec.len() != 3088 {
+    if rec.len() != record::SIZE {
         return 1;
     }
     if 10 < n {

@@ -12,7 +12,7 @@ ghost use Rattle.log_stream.specs.Streams.{took, Ready};
 ghost use Rattle.cube_run.specs.Turns.{Fed, afterWrite, Handed, Turned, Printed};
 
 // The record; a window on the input, where a frame has at most 65,535 bytes; and the output, lines to be written at once.
-const RECORD: usize = 3088;
+const RECORD: usize = record::SIZE;
 
 const WINDOW: usize = 131072;
 

@@ -170,7 +170,7 @@ fn last_causes(rec: &mut [u8]) {
     call(b"relabel", rec, b"\x04\x00\x03\x02");
 }
 
-// 3088 bytes that are no record.
+// A record's size of bytes that are no record.
 fn damaged(rec: &mut [u8]) {
     call_short(b"causes 1 and 2", rec, b"\x06\x00\x01\x01\x00\x00");
     call(b"cause 1", rec, b"\x06\x00\x01\x01\x00\x00");
@@ -200,7 +200,7 @@ fn pairs() {
     call_pairs(&mut rec);
     single_causes(&mut rec);
     last_causes(&mut rec);
-    let mut none = [0; 3088];
+    let mut none = [0; record::SIZE];
     damaged(&mut none);
 }
 

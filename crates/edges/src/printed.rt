@@ -1,9 +1,9 @@
 // Calls whose answers are printed: the number returned and the six words of the reply buffer, which held 61166 in each before the call.
 use libc::STDOUT_FILENO;
 
-// 3088 bytes of 170, which set-up does not mind.
-pub(crate) fn buffer() -> [u8; 3088] {
-    [170; 3088]
+// A record's size of bytes 170, which set-up does not mind.
+pub(crate) fn buffer() -> [u8; record::SIZE] {
+    [170; record::SIZE]
 }
 
 fn word(low: u8, high: u8) -> u64 {

@@ -8,7 +8,7 @@ fn print_direction(d: u8) {
     io::print_decimal(STDOUT_FILENO, d as u64);
 }
 
-fn print_map(rec: &[u8; 3088]) {
+fn print_map(rec: &[u8; record::SIZE]) {
     io::write_all(STDOUT_FILENO, b"map:");
     print_direction(rec[5]);
     print_direction(rec[6]);
@@ -23,13 +23,13 @@ fn print_map(rec: &[u8; 3088]) {
     io::write_all(STDOUT_FILENO, b"\n");
 }
 
-fn relabel(name: &[u8], rec: &mut [u8; 3088]) {
+fn relabel(name: &[u8], rec: &mut [u8; record::SIZE]) {
     printed::call(name, rec, b"\x04\x00\x03\x02");
     print_map(rec);
 }
 
 // A request of k 2 by job 7, by buddy, and its release.
-fn grant(rec: &mut [u8; 3088]) {
+fn grant(rec: &mut [u8; record::SIZE]) {
     printed::call(
         b"request of k 2 by 7",
         rec,
@@ -45,7 +45,7 @@ fn all_silent(name: &[u8], n: u32) {
 }
 
 // n 3: node 1 is silent, node 5 faulty, each other good.
-fn silent_and_faulty(rec: &mut [u8; 3088]) {
+fn silent_and_faulty(rec: &mut [u8; record::SIZE]) {
     printed::make_good(rec, 0);
     printed::make_good_from(rec, 2, 8);
     printed::call(b"n 3, fault 5", rec, b"\x06\x00\x02\x01\x05\x00");
@@ -54,7 +54,7 @@ fn silent_and_faulty(rec: &mut [u8; 3088]) {
 }
 
 // Both are silent, then node 5 alone, and D is empty; then none is, and what the record has past 2^n does not count.
-fn silent_ones_report(rec: &mut [u8; 3088]) {
+fn silent_ones_report(rec: &mut [u8; record::SIZE]) {
     printed::call(b"repaired 5", rec, b"\x06\x00\x03\x01\x05\x00");
     relabel(b"nodes 1 and 5 silent, relabel", rec);
     printed::make_good(rec, 1);
@@ -65,7 +65,7 @@ fn silent_ones_report(rec: &mut [u8; 3088]) {
 }
 
 // n 3: nodes 2 and 3 are silent, node 6 faulty, each other good.
-fn two_silent(rec: &mut [u8; 3088]) {
+fn two_silent(rec: &mut [u8; record::SIZE]) {
     printed::make_good_from(rec, 0, 2);
     printed::make_good_from(rec, 4, 8);
     printed::call(b"n 3, fault 6", rec, b"\x06\x00\x02\x01\x06\x00");
@@ -73,14 +73,14 @@ fn two_silent(rec: &mut [u8; 3088]) {
 }
 
 // Direction 1 alone is in D, and the map is the identity.
-fn lowest_direction(rec: &mut [u8; 3088]) {
+fn lowest_direction(rec: &mut [u8; record::SIZE]) {
     printed::call(b"repaired 6", rec, b"\x06\x00\x03\x01\x06\x00");
     printed::make_good(rec, 6);
     relabel(b"nodes 2 and 3 silent, relabel", rec);
 }
 
 // n 10: node 1 is silent, node 513 faulty, each other good.
-fn largest(rec: &mut [u8; 3088]) {
+fn largest(rec: &mut [u8; record::SIZE]) {
     printed::make_good_from(rec, 0, 1024);
     printed::call(b"n 10, fault 1", rec, b"\x06\x00\x02\x01\x01\x00");
     printed::call(b"repaired 1", rec, b"\x06\x00\x03\x01\x01\x00");

@@ -17,6 +17,7 @@ use Rattle.tally.specs.declared.Outcome.the-variants.{Setup, Done, Granted, Ref
 use Rattle.tally.specs.declared.Tally.{Tally}
 use Rattle.tally.specs.Counts.{none, counted}
 use Rattle.lines.specs.Text.{totalsOf}
+use Rattle.record.specs.Layout.{recordSize}
 use Rattle.cube.specs.Called.{setupRecord, callRecord, delivered}
 use Rattle.cube.specs.Run.{Exchanges, begin, _next_, replies, heard, recordAfter, number, reply}
 use Rattle.cube.proofs.Theorem.{heard-is, demand3}
@@ -96,7 +97,7 @@ total-more t (Refused m k) = refl
 
 -- ---- the whole log
 
-module _ (n : ℕ) (small : n ≤ 10) (b : List ℕ) (whole : length b ≡ 3088) where
+module _ (n : ℕ) (small : n ≤ 10) (b : List ℕ) (whole : length b ≡ recordSize) where
   -- a later frame is told what the history says
   later-told : (es : Exchanges) (f : List ℕ) → laterOutcome (recordAfter delivered n b es) f ≡ outcomeBy n es f
   unfolding laterOutcome
@@ -171,7 +172,7 @@ at-ceiling : (rest : List ℕ) (t : Tally) (r : List ℕ) → t .total ≡ 42949
 unfolding stepOf
 at-ceiling rest t r h = ends t r rest (rw (eq-eqb (t .total) 4294967295 h))
 
-pub log-right : (b : List ℕ) → length b ≡ 3088 → LogRight b
+pub log-right : (b : List ℕ) → length b ≡ recordSize → LogRight b
 log-right b whole = record {
   empty =
       by-next [] (λ c e. omega (arith, framed true 0 [] c (sym e) .two)) none b (λ k. omega arith) next.End (next-none true 0 [] refl);

@@ -14,6 +14,7 @@ use Rattle.history.specs.Calls.{word}
 use Rattle.tally.specs.declared.Outcome.the-variants.{Refused}
 use Rattle.tally.specs.Counts.{none, counted}
 use Rattle.lines.specs.Text.{totalsOf}
+use Rattle.record.specs.Layout.{recordSize}
 use Rattle.cube.specs.Called.{setupNumber}
 use Rattle.log.specs.declared.Next.the-variants as next
 use Rattle.log.specs.Next.{nextOf}
@@ -28,7 +29,7 @@ pub word-take : (k : ℕ) (l : List ℕ) (i : ℕ) → i + 1 < k → word (take 
 unfolding word
 word-take k l i h = rw (getD-take k l i 0 (omega arith), getD-take k l (i + 1) 0 h)
 
-module _ (b : List ℕ) (whole : length b ≡ 3088) (l : List ℕ) where
+module _ (b : List ℕ) (whole : length b ≡ recordSize) (l : List ℕ) where
   abbrev Refuses : ℕ → Type 0
   Refuses m = Prints none b l (lineAfter none (Refused m 0) ++ totalsOf (counted none (Refused m 0)))
 
@@ -67,9 +68,9 @@ module _ (b : List ℕ) (whole : length b ≡ 3088) (l : List ℕ) where
     above-10 k s h =
         sym
         (set-up b f four right (its-kind ∙ k) (long ∙ s)
-        ∙ rw (eq-eqb (length b) 3088 whole, word-take (word l 0) l 4 (omega arith), lt-leb (word l 4) 10 h))
+        ∙ rw (eq-eqb (length b) recordSize whole, word-take (word l 0) l 4 (omega arith), lt-leb (word l 4) 10 h))
 
-pub wrong-first : (b : List ℕ) → length b ≡ 3088 → (l : List ℕ) (m : ℕ) → Wrong l m
+pub wrong-first : (b : List ℕ) → length b ≡ recordSize → (l : List ℕ) (m : ℕ) → Wrong l m
     → Prints none b l (lineAfter none (Refused m 0) ++ totalsOf (counted none (Refused m 0)))
 wrong-first b whole l m (lone h) = broken b whole l (next-lone true 0 l h)
 wrong-first b whole l m (under two h) = under-4 b whole l two h

@@ -7,7 +7,7 @@ use lib.ListN.{length, set, length-append, length-set}
 use lib.Seq.{set-append-left}
 use Rattle.state.specs.declared.State.{State}
 use Rattle.state.specs.States.{withCondition, withMap, withHolders}
-use Rattle.record.specs.Layout.{words, encode}
+use Rattle.record.specs.Layout.{mapAt, conditionsAt, holdersAt, words, encode}
 use Rattle.record.proofs.Round.{Sized, length-words}
 
 -- an entry of the second of two lists set
@@ -39,35 +39,35 @@ module _ (s : State) (z : Sized s) where
   unfolding encode
   split hs cs = simp append-assoc
 
-  pub set-map-entry : (i v : ℕ) → i < 10 → set (encode s) (5 + i) v ≡ encode (withMap s (set (s .map) i v))
+  pub set-map-entry : (i v : ℕ) → i < 10 → set (encode s) (mapAt + i) v ≡ encode (withMap s (set (s .map) i v))
   unfolding encode
   set-map-entry i v h =
       let first : List ℕ = 16 ∷ 12 ∷ 1 ∷ 0 ∷ s .n ∷ [] in
       let rest : List ℕ = (0 ∷ []) ++ (words (s .holders) ++ s .conditions) in
-      set-past first (s .map ++ rest) i (5 + i) v refl
+      set-past first (s .map ++ rest) i (mapAt + i) v refl
       ∙ ap (λ (l : List ℕ). first ++ l) (set-append-left (s .map) rest i v (omega (arith, z .directions)))
 
-  pub set-condition-entry : (x v : ℕ) → set (encode s) (2064 + x) v ≡ encode (withCondition s x v)
+  pub set-condition-entry : (x v : ℕ) → set (encode s) (conditionsAt + x) v ≡ encode (withCondition s x v)
   set-condition-entry x v =
       let hs = words (s .holders) in
       let w : length hs + x ≡ 2048 + x = omega (arith, z .holders, length-words (s .holders)) in
-      ap (λ (l : List ℕ). set l (2064 + x) v) (split (s .holders) (s .conditions))
-      ∙ set-past head (hs ++ s .conditions) (2048 + x) (2064 + x) v (omega (arith, length-head))
+      ap (λ (l : List ℕ). set l (conditionsAt + x) v) (split (s .holders) (s .conditions))
+      ∙ set-past head (hs ++ s .conditions) (2048 + x) (conditionsAt + x) v (omega (arith, length-head))
       ∙ ap (λ (l : List ℕ). head ++ l) (set-past hs (s .conditions) x (2048 + x) v w)
       ∙ sym (split (s .holders) (set (s .conditions) x v))
 
   pub set-holder-entry : (x v : ℕ) → x < 1024
-      → set (set (encode s) (16 + 2 * x) (v % 256)) (16 + 2 * x + 1) (v / 256) ≡ encode (withHolders s (set (s .holders) x v))
+      → set (set (encode s) (holdersAt + 2 * x) (v % 256)) (holdersAt + 2 * x + 1) (v / 256) ≡ encode (withHolders s (set (s .holders) x v))
   set-holder-entry x v h =
       let hs = words (s .holders) in
       let cs = s .conditions in
       let low = set hs (2 * x) (v % 256) in
       let w : length hs ≡ 2048 = omega (arith, z .holders, length-words (s .holders)) in
-      ap (λ (l : List ℕ). set (set l (16 + 2 * x) (v % 256)) (16 + 2 * x + 1) (v / 256)) (split (s .holders) cs)
-      ∙ ap (λ (l : List ℕ). set l (16 + 2 * x + 1) (v / 256))
-      (set-past head (hs ++ cs) (2 * x) (16 + 2 * x) (v % 256) (omega (arith, length-head))
+      ap (λ (l : List ℕ). set (set l (holdersAt + 2 * x) (v % 256)) (holdersAt + 2 * x + 1) (v / 256)) (split (s .holders) cs)
+      ∙ ap (λ (l : List ℕ). set l (holdersAt + 2 * x + 1) (v / 256))
+      (set-past head (hs ++ cs) (2 * x) (holdersAt + 2 * x) (v % 256) (omega (arith, length-head))
       ∙ ap (λ (l : List ℕ). head ++ l) (set-append-left hs cs (2 * x) (v % 256) (omega arith)))
-      ∙ set-past head (low ++ cs) (2 * x + 1) (16 + 2 * x + 1) (v / 256) (omega (arith, length-head))
+      ∙ set-past head (low ++ cs) (2 * x + 1) (holdersAt + 2 * x + 1) (v / 256) (omega (arith, length-head))
       ∙ ap (λ (l : List ℕ). head ++ l) (set-append-left low cs (2 * x + 1) (v / 256) (omega (arith, length-set hs (2 * x) (v % 256))))
       ∙ ap (λ (l : List ℕ). head ++ (l ++ cs)) (set-words (s .holders) x v)
       ∙ sym (split (set (s .holders) x v) cs)

@@ -15,7 +15,7 @@ ghost use Rattle.hypercube.specs.Subcubes.{vertices};
 ghost use Rattle.labels.specs.Flags.{EmptyFrom, byNode};
 ghost use Rattle.labels.specs.Relabelling.{relabelling};
 ghost use Rattle.state.specs.States.{withCondition, withMap, withHolders, given, cleared};
-ghost use Rattle.record.specs.Layout.{encode, decode, Encoded, headRight};
+ghost use Rattle.record.specs.Layout.{recordSize, encode, decode, Encoded, headRight};
 ghost use Rattle.nodes.specs.Holders.{LowestOf};
 
 // A node's number, as a place among the 1024.
@@ -27,27 +27,27 @@ fn index(x: Node) -> usize
 
 // Node x's holder, read in place.
 pub fn holder_at(bytes: &[u8], x: Node) -> u16
-    requires { ⌜ (length (now bytes) ≡ 3088) × (x .0 < 1024) ⌝ }
+    requires { ⌜ (length (now bytes) ≡ recordSize) × (x .0 < 1024) ⌝ }
     ensures { λ r. ⌜ r ≡ getD (decode (now (bytes .entry)) .holders) (x .0) 0 ⌝ }
 {
-    word(bytes, 16 + 2 * index(x))
+    word(bytes, record::HOLDERS + 2 * index(x))
 }
 
 // Node x's condition, read in place.
 pub fn condition_at(bytes: &[u8], x: Node) -> u8
-    requires { ⌜ (length (now bytes) ≡ 3088) × (x .0 < 1024) ⌝ }
+    requires { ⌜ (length (now bytes) ≡ recordSize) × (x .0 < 1024) ⌝ }
     ensures { λ r. ⌜ r ≡ getD (decode (now (bytes .entry)) .conditions) (x .0) 0 ⌝ }
 {
-    bytes[2064 + index(x)]
+    bytes[record::CONDITIONS + index(x)]
 }
 
 // Node x's condition, set in place: one byte is stored.
 pub fn set_condition(bytes: &mut [u8], x: Node, condition: u8)
-    requires { ⌜ (length (now bytes) ≡ 3088) × ((x .0 < 1024) × (headRight (now bytes) ≡ true)) ⌝ }
+    requires { ⌜ (length (now bytes) ≡ recordSize) × ((x .0 < 1024) × (headRight (now bytes) ≡ true)) ⌝ }
     ensures { λ _. ⌜ now (bytes .exit) ≡ encode (withCondition (decode (now (bytes .entry))) (x .0) condition) ⌝ }
 {
     let i = index(x);
-    bytes[2064 + i] = condition;
+    bytes[record::CONDITIONS + i] = condition;
 }
 
 // Node x's holder, set in place.
@@ -55,8 +55,8 @@ fn set_holder(bytes: &mut [u8], x: usize, job: u16)
     requires { ⌜ Encoded (now bytes) × (x < 1024) ⌝ }
     ensures { λ _. ⌜ now (bytes .exit) ≡ encode (withHolders (decode (now (bytes .entry))) (set (decode (now (bytes .entry)) .holders) x job)) ⌝ }
 {
-    bytes[16 + 2 * x] = (job % 256) as u8;
-    bytes[16 + 2 * x + 1] = (job / 256) as u8;
+    bytes[record::HOLDERS + 2 * x] = (job % 256) as u8;
+    bytes[record::HOLDERS + 2 * x + 1] = (job / 256) as u8;
 }
 
 // Entry i of the map, set in place.
@@ -64,12 +64,12 @@ fn set_direction(bytes: &mut [u8], i: usize, direction: u8)
     requires { ⌜ Encoded (now bytes) × (i < 10) ⌝ }
     ensures { λ _. ⌜ now (bytes .exit) ≡ encode (withMap (decode (now (bytes .entry))) (set (decode (now (bytes .entry)) .map) i direction)) ⌝ }
 {
-    bytes[5 + i] = direction;
+    bytes[record::MAP + i] = direction;
 }
 
 // The map, set in place.
 pub fn set_map(bytes: &mut [u8], map: &[u8; 10])
-    requires { ⌜ (length (now bytes) ≡ 3088) × (headRight (now bytes) ≡ true) ⌝ }
+    requires { ⌜ (length (now bytes) ≡ recordSize) × (headRight (now bytes) ≡ true) ⌝ }
     requires { ⌜ length (now map) ≡ 10 ⌝ }
     ensures { λ _. ⌜ now (bytes .exit) ≡ encode (withMap (decode (now (bytes .entry))) (now (map .entry))) ⌝ }
 {
@@ -82,31 +82,31 @@ pub fn set_map(bytes: &mut [u8], map: &[u8; 10])
 
 // The relabelling over the conditions that a record says.
 pub fn relabelling(bytes: &[u8]) -> Relabelled
-    requires { ⌜ (length (now bytes) ≡ 3088) × (decode (now bytes) .n ≤ 10) ⌝ }
+    requires { ⌜ (length (now bytes) ≡ recordSize) × (decode (now bytes) .n ≤ 10) ⌝ }
     ensures { λ r. ⌜ r ≡ relabelling (decode (now (bytes .entry)) .n) (decode (now (bytes .entry)) .conditions) ⌝ }
 {
     let n = record::dimension(bytes);
-    labels::relabel(n as u16, &bytes[2064..3088])
+    labels::relabel(n as u16, &bytes[record::CONDITIONS..record::CONDITIONS_END])
 }
 
 // Whether any of the nodes below `size` is held: a byte of their holders isn't 0.
 pub fn any_held(bytes: &[u8], size: usize) -> bool
-    requires { ⌜ (length (now bytes) ≡ 3088) × (size ≤ 1024) ⌝ }
+    requires { ⌜ (length (now bytes) ≡ recordSize) × (size ≤ 1024) ⌝ }
     ensures { λ r. ⌜ r ≡ anyBelow (λ x. not (eqb (getD (decode (now (bytes .entry)) .holders) x 0) 0)) size ⌝ }
 {
-    let end = 16 + 2 * size;
-    !all_zero(&bytes[16..end])
+    let end = record::HOLDERS + 2 * size;
+    !all_zero(&bytes[record::HOLDERS..end])
 }
 
 // How many of the nodes below `size` a job holds.
 pub fn count_held(bytes: &[u8], size: usize, job: u16) -> u16
-    requires { ⌜ (length (now bytes) ≡ 3088) × (size ≤ 1024) ⌝ }
+    requires { ⌜ (length (now bytes) ≡ recordSize) × (size ≤ 1024) ⌝ }
     ensures { λ r. ⌜ r ≡ countBelow size (λ x. eqb (getD (decode (now (bytes .entry)) .holders) x 0) job) ⌝ }
 {
     let mut count: u16 = 0;
     let mut x = 0;
     while x < size {
-        if word(bytes, 16 + 2 * x) == job {
+        if word(bytes, record::HOLDERS + 2 * x) == job {
             count += 1;
         }
         x += 1;
@@ -130,7 +130,7 @@ fn after_grant(y: u16, first: u16, stars: u16, job: u16, holder: u16) -> u16
 // Its nodes lie from the lowest to the one with all stars set. As in `clear`, a holder is stored at each number from one to the other,
 // changed or not; that and numbers of 16 bits make the loop compile to vector code.
 pub fn give(bytes: &mut [u8], low: Node, stars: u16, job: u16)
-    requires { ⌜ (length (now bytes) ≡ 3088) × (headRight (now bytes) ≡ true) ⌝ }
+    requires { ⌜ (length (now bytes) ≡ recordSize) × (headRight (now bytes) ≡ true) ⌝ }
     requires { ⌜ LowestOf stars (low .0) ⌝ }
     ensures { λ _. ⌜ now (bytes .exit) ≡ encode (withHolders (decode (now (bytes .entry))) (given (decode (now (bytes .entry)) .holders) (vertices width stars (low .0)) job)) ⌝ }
 {
@@ -138,7 +138,7 @@ pub fn give(bytes: &mut [u8], low: Node, stars: u16, job: u16)
     let end = (first + stars) as usize + 1;
     let mut y = first as usize;
     while y < end {
-        let h = after_grant(y as u16, first, stars, job, word(bytes, 16 + 2 * y));
+        let h = after_grant(y as u16, first, stars, job, word(bytes, record::HOLDERS + 2 * y));
         set_holder(bytes, y, h);
         y += 1;
     }
@@ -153,13 +153,13 @@ fn without(holder: u16, job: u16) -> u16
 
 // Every node of the job made unheld. None from `size` up is held. A holder is stored at each node, so the loop compiles to vector code.
 pub fn clear(bytes: &mut [u8], size: usize, job: u16)
-    requires { ⌜ (length (now bytes) ≡ 3088) × (headRight (now bytes) ≡ true) ⌝ }
+    requires { ⌜ (length (now bytes) ≡ recordSize) × (headRight (now bytes) ≡ true) ⌝ }
     requires { ⌜ EmptyFrom (decode (now bytes) .holders) size ⌝ }
     ensures { λ _. ⌜ now (bytes .exit) ≡ encode (withHolders (decode (now (bytes .entry))) (cleared (decode (now (bytes .entry)) .holders) job)) ⌝ }
 {
     let mut x = 0;
     while x < size {
-        let h = without(word(bytes, 16 + 2 * x), job);
+        let h = without(word(bytes, record::HOLDERS + 2 * x), job);
         set_holder(bytes, x, h);
         x += 1;
     }
@@ -168,13 +168,13 @@ pub fn clear(bytes: &mut [u8], size: usize, job: u16)
 // The flags of the nodes below `size`, by node, put into flags that are 0 from there up. Condition and holder are read at every node, so the loop
 // compiles to vector code.
 pub fn flags_by_node(bytes: &[u8], size: usize, flags: &mut [u8; 1024])
-    requires { ⌜ (length (now bytes) ≡ 3088) × (size ≤ 1024) ⌝ }
+    requires { ⌜ (length (now bytes) ≡ recordSize) × (size ≤ 1024) ⌝ }
     requires { ⌜ EmptyFrom (now flags) size ⌝ }
     ensures { λ _. ⌜ now (flags .exit) ≡ byNode size (decode (now (bytes .entry)) .conditions) (decode (now (bytes .entry)) .holders) ⌝ }
 {
     let mut x = 0;
     while x < size {
-        flags[x] = labels::flag_of(bytes[2064 + x], word(bytes, 16 + 2 * x));
+        flags[x] = labels::flag_of(bytes[record::CONDITIONS + x], word(bytes, record::HOLDERS + 2 * x));
         x += 1;
     }
 }

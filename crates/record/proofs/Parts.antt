@@ -15,48 +15,48 @@ use Rattle.state.specs.Valid.{nodesRight}
 use Rattle.state.proofs.Below.{any-not}
 use Rattle.state.proofs.Valid.{means-nodes}
 use Rattle.record.specs.Highest.{highestOf, allZero}
-use Rattle.record.specs.Layout.{decode}
+use Rattle.record.specs.Layout.{conditionsEnd, conditionsAt, holdersAt, recordSize, decode}
 use Rattle.record.proofs.Round.{decode-holder, decode-condition, each-holder}
 use Rattle.record.proofs.Maximum.{part, part-within}
 
 -- N nodes, of 1024; the highest byte of the conditions below N; whether those from N up, and the holders from N up, are all 0
-module _ (r : List ℕ) (N : ℕ) (long : length r ≡ 3088) (few : N ≤ 1024) where
+module _ (r : List ℕ) (N : ℕ) (long : length r ≡ recordSize) (few : N ≤ 1024) where
   abbrev pub conditions-below : ℕ
-  conditions-below = highestOf (part r 2064 (2064 + N))
+  conditions-below = highestOf (part r conditionsAt (conditionsAt + N))
 
   abbrev pub conditions-beyond : Bool
-  conditions-beyond = allZero (part r (2064 + N) 3088)
+  conditions-beyond = allZero (part r (conditionsAt + N) conditionsEnd)
 
   abbrev pub holders-beyond : Bool
-  holders-beyond = allZero (part r (16 + 2 * N) 2064)
+  holders-beyond = allZero (part r (holdersAt + 2 * N) conditionsAt)
 
   -- every byte from place a up to place e is 0
-  means-none : (a e : ℕ) → e ≤ 3088 → Means (allZero (part r a e)) ((i : ℕ) → a ≤ i → i < e → getD r i 0 ≤ 0)
+  means-none : (a e : ℕ) → e ≤ recordSize → Means (allZero (part r a e)) ((i : ℕ) → a ≤ i → i < e → getD r i 0 ≤ 0)
   means-none a e h =
       let w = part-within r a e (omega arith) 0 in
       means-iff (means-eq (highestOf (part r a e)) 0) (λ z. w .0 (omega arith), λ f. omega (arith, w .1 f))
 
-  means-below : Means (leb conditions-below 2) ((i : ℕ) → 2064 ≤ i → i < 2064 + N → getD r i 0 ≤ 2)
-  means-below = means-iff (means-le conditions-below 2) (part-within r 2064 (2064 + N) (omega arith) 2)
+  means-below : Means (leb conditions-below 2) ((i : ℕ) → conditionsAt ≤ i → i < conditionsAt + N → getD r i 0 ≤ 2)
+  means-below = means-iff (means-le conditions-below 2) (part-within r conditionsAt (conditionsAt + N) (omega arith) 2)
 
   -- a byte among the conditions, by its node
-  at-condition : (P : ℕ → Type 0) (i : ℕ) → i < 3088 → 2064 ≤ i → P (getD (decode r .conditions) (i - 2064) 0) → P (getD r i 0)
+  at-condition : (P : ℕ → Type 0) (i : ℕ) → i < recordSize → conditionsAt ≤ i → P (getD (decode r .conditions) (i - conditionsAt) 0) → P (getD r i 0)
   at-condition P i b a p =
-      let e : 2064 + (i - 2064) ≡ i = omega arith in
-      rw e at (rw (decode-condition r (i - 2064) (omega arith)) at p)
+      let e : conditionsAt + (i - conditionsAt) ≡ i = omega arith in
+      rw e at (rw (decode-condition r (i - conditionsAt) (omega arith)) at p)
 
   -- a to e: nodes; their holders' bytes are all 0 where none of them is held
   means-unheld : (a e : ℕ) → e ≤ 1024
-      → Means (allZero (part r (16 + 2 * a) (16 + 2 * e))) ((x : ℕ) → a ≤ x → x < e → getD (decode r .holders) x 0 ≡ 0)
+      → Means (allZero (part r (holdersAt + 2 * a) (holdersAt + 2 * e))) ((x : ℕ) → a ≤ x → x < e → getD (decode r .holders) x 0 ≡ 0)
   unfolding word
   means-unheld a e h =
-      means-iff (means-none (16 + 2 * a) (16 + 2 * e) (omega arith)) (
+      means-iff (means-none (holdersAt + 2 * a) (holdersAt + 2 * e) (omega arith)) (
         λ p x g l.
             omega (
               arith,
               decode-holder r x (omega arith),
-              p (16 + 2 * x) (omega arith) (omega arith),
-              p (16 + 2 * x + 1) (omega arith) (omega arith),
+              p (holdersAt + 2 * x) (omega arith) (omega arith),
+              p (holdersAt + 2 * x + 1) (omega arith) (omega arith),
             ),
         λ q i g l. each-holder (λ k. getD r k 0 ≤ 0) i (omega arith) (omega arith) (λ x b u v.
             let z = decode-holder r x b in
@@ -65,7 +65,7 @@ module _ (r : List ℕ) (N : ℕ) (long : length r ≡ 3088) (few : N ≤ 1024) 
       )
 
   -- whether any of the N nodes is held, by their holders' bytes
-  pub any-held : {b : Bool} → b ≡ allZero (part r 16 (16 + 2 * N)) → not b ≡ anyBelow (λ x. not (eqb (getD (decode r .holders) x 0) 0)) N
+  pub any-held : {b : Bool} → b ≡ allZero (part r holdersAt (holdersAt + 2 * N)) → not b ≡ anyBelow (λ x. not (eqb (getD (decode r .holders) x 0) 0)) N
   any-held e =
       let test : ℕ → Bool = λ x. eqb (getD (decode r .holders) x 0) 0 in
       ap not (e ∙ same-test (means-unheld 0 N few) (means-each test (λ x. getD (decode r .holders) x 0 ≡ 0) N (λ x l. means-eq (getD (decode r .holders) x 0) 0))
@@ -74,16 +74,16 @@ module _ (r : List ℕ) (N : ℕ) (long : length r ≡ 3088) (few : N ≤ 1024) 
 
   pub three-parts : (leb conditions-below 2 && (conditions-beyond && holders-beyond)) ≡ nodesRight (decode r .holders) (decode r .conditions) N
   three-parts =
-      same-test (means-and means-below (means-and (means-none (2064 + N) 3088 (omega arith)) (means-unheld N 1024 (omega arith))))
+      same-test (means-and means-below (means-and (means-none (conditionsAt + N) conditionsEnd (omega arith)) (means-unheld N 1024 (omega arith))))
       (means-nodes (decode r .holders) (decode r .conditions) N) (
         λ p x l. (
-          λ b. rw (decode-condition r x l) (p .0 (2064 + x) (omega arith) (omega arith)),
-          λ g. (p .1 .1 x g l, omega (arith, decode-condition r x l, p .1 .0 (2064 + x) (omega arith) (omega arith))),
+          λ b. rw (decode-condition r x l) (p .0 (conditionsAt + x) (omega arith) (omega arith)),
+          λ g. (p .1 .1 x g l, omega (arith, decode-condition r x l, p .1 .0 (conditionsAt + x) (omega arith) (omega arith))),
         ),
         λ q. (
-          λ i a b. at-condition (λ y. y ≤ 2) i (omega arith) a (q (i - 2064) (omega arith) .0 (omega arith)),
+          λ i a b. at-condition (λ y. y ≤ 2) i (omega arith) a (q (i - conditionsAt) (omega arith) .0 (omega arith)),
           (
-            λ i a b. omega (arith, at-condition (λ y. y ≡ 0) i (omega arith) (omega arith) (q (i - 2064) (omega arith) .1 (omega arith) .1)),
+            λ i a b. omega (arith, at-condition (λ y. y ≡ 0) i (omega arith) (omega arith) (q (i - conditionsAt) (omega arith) .1 (omega arith) .1)),
             λ x g l. q x l .1 g .0,
           ),
         ),

@@ -8,33 +8,33 @@ use lib.Dec.{eqb}
 use lib.ListN.{length, getD}
 use Rattle.history.specs.Calls.{word}
 use Rattle.state.specs.Valid.{valid}
-use Rattle.record.specs.Layout.{decode, headRight, validRecord}
+use Rattle.record.specs.Layout.{recordSize, decode, headRight, validRecord}
 
 module _ (r : List ℕ) where
   -- ---- the head
 
-  pub head-not-size : (word r 0 ≡ 3088 → ⊥) → false ≡ headRight r
+  pub head-not-size : (word r 0 ≡ recordSize → ⊥) → false ≡ headRight r
   unfolding headRight
   head-not-size p = simp (ne-eqb _ _ p)
 
-  pub head-not-kind : word r 0 ≡ 3088 → (word r 2 ≡ 1 → ⊥) → false ≡ headRight r
+  pub head-not-kind : word r 0 ≡ recordSize → (word r 2 ≡ 1 → ⊥) → false ≡ headRight r
   unfolding headRight
   head-not-kind p q = simp (eq-eqb _ _ p, ne-eqb _ _ q)
 
-  pub head-zero-byte : word r 0 ≡ 3088 → word r 2 ≡ 1 → eqb (getD r 15 0) 0 ≡ headRight r
+  pub head-zero-byte : word r 0 ≡ recordSize → word r 2 ≡ 1 → eqb (getD r 15 0) 0 ≡ headRight r
   unfolding headRight
   head-zero-byte p q = simp (eq-eqb _ _ p, eq-eqb _ _ q)
 
   -- ---- the whole test
 
-  pub not-size : (length r ≡ 3088 → ⊥) → false ≡ validRecord r
+  pub not-size : (length r ≡ recordSize → ⊥) → false ≡ validRecord r
   unfolding validRecord
   not-size p = simp (ne-eqb _ _ p)
 
-  pub not-head : length r ≡ 3088 → headRight r ≡ false → false ≡ validRecord r
+  pub not-head : length r ≡ recordSize → headRight r ≡ false → false ≡ validRecord r
   unfolding validRecord
   not-head p q = simp (eq-eqb _ _ p, q)
 
-  pub by-state : length r ≡ 3088 → headRight r ≡ true → valid (decode r) ≡ validRecord r
+  pub by-state : length r ≡ recordSize → headRight r ≡ true → valid (decode r) ≡ validRecord r
   unfolding validRecord
   by-state p q = simp (eq-eqb _ _ p, q)

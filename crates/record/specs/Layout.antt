@@ -11,22 +11,38 @@ use Rattle.history.specs.Calls.{word}
 use Rattle.state.specs.declared.State.{State}
 use Rattle.state.specs.Valid.{valid}
 
+-- the record's size, and the places of its parts; the conditions stand last and end where the record does
+abbrev pub recordSize : ℕ
+recordSize = 3088
+
+abbrev pub mapAt : ℕ
+mapAt = 5
+
+abbrev pub holdersAt : ℕ
+holdersAt = 16
+
+abbrev pub conditionsAt : ℕ
+conditionsAt = 2064
+
+abbrev pub conditionsEnd : ℕ
+conditionsEnd = 3088
+
 -- two bytes of each number, little-endian
 unfoldable pub words : List ℕ → List ℕ
 words [] = []
 words (x ∷ xs) = (x % 256) ∷ (x / 256) ∷ words xs
 
--- the record that says a state; 3088 is 16 + 256 × 12
+-- the record that says a state
 unfoldable pub encode : State → List ℕ
-encode s = (16 ∷ 12 ∷ 1 ∷ 0 ∷ s .n ∷ []) ++ (s .map ++ ((0 ∷ []) ++ (words (s .holders) ++ s .conditions)))
+encode s = ((recordSize % 256) ∷ (recordSize / 256) ∷ 1 ∷ 0 ∷ s .n ∷ []) ++ (s .map ++ ((0 ∷ []) ++ (words (s .holders) ++ s .conditions)))
 
 -- the state that a record's bytes say
 unfoldable pub decode : List ℕ → State
 decode r = record {
   n = getD r 4 0;
-  map = map (λ i. getD r (5 + i) 0) (from 0 10);
-  holders = map (λ x. word r (16 + 2 * x)) (from 0 1024);
-  conditions = map (λ x. getD r (2064 + x) 0) (from 0 1024);
+  map = map (λ i. getD r (mapAt + i) 0) (from 0 10);
+  holders = map (λ x. word r (holdersAt + 2 * x)) (from 0 1024);
+  conditions = map (λ x. getD r (conditionsAt + x) 0) (from 0 1024);
 }
 
 -- r is the record of the state that it says
@@ -35,7 +51,7 @@ Encoded r = encode (decode r) ≡ r
 
 -- refusal 1's whole test
 unfoldable pub headRight : List ℕ → Bool
-headRight r = eqb (word r 0) 3088 && (eqb (word r 2) 1 && eqb (getD r 15 0) 0)
+headRight r = eqb (word r 0) recordSize && (eqb (word r 2) 1 && eqb (getD r 15 0) 0)
 
 unfoldable pub validRecord : List ℕ → Bool
-validRecord r = eqb (length r) 3088 && (headRight r && valid (decode r))
+validRecord r = eqb (length r) recordSize && (headRight r && valid (decode r))

@@ -5,11 +5,11 @@ use mathlib.Core.List.{List}
 use lib.ListN.{getD}
 use Rattle.hypercube.specs.Filled.{Filled}
 use Rattle.state.specs.declared.State.{State}
-use Rattle.record.specs.Layout.{encode}
+use Rattle.record.specs.Layout.{recordSize, encode}
 
 -- l is as long as a record, and its first i bytes are those of the state's
 abbrev pub Begun : State → ℕ → List ℕ → Type 0
-Begun s i l = Filled (λ k. getD (encode s) k 0) 0 3088 i l
+Begun s i l = Filled (λ k. getD (encode s) k 0) 0 recordSize i l
 
 -- the same of l, and the bytes from i on are those of r
 pub record Stored (s : State) (r : List ℕ) (i : ℕ) (l : List ℕ) : Type 0 where

@@ -1,4 +1,4 @@
-// A record's 3088 bytes, and the state that they say (document 01, "Node and record").
+// A record's bytes, and the state that they say (document 01, "Node and record").
 use state::State;
 ghost use mathlib.Core.Path.{_≡_};
 ghost use mathlib.Core.List.{map};
@@ -7,9 +7,21 @@ ghost use lib.ListN.{length, getD};
 ghost use Rattle.hypercube.specs.Lists.{from};
 ghost use Rattle.history.specs.Calls.{word};
 ghost use Rattle.state.specs.Valid.{nodesRight, valid};
-ghost use Rattle.record.specs.Layout.{encode, decode, headRight, validRecord};
+ghost use Rattle.record.specs.Layout.{holdersAt, conditionsAt, recordSize, encode, decode, headRight, validRecord};
 ghost use Rattle.record.specs.Stored.{Begun, Stored};
 ghost use Rattle.record.specs.Highest.{highestOf, allZero};
+
+// The record's size, and the places of its parts. The conditions stand last.
+pub const SIZE: usize = 3088;
+pub const MAP: usize = 5;
+pub const HOLDERS: usize = 16;
+pub const CONDITIONS: usize = 2064;
+pub const CONDITIONS_END: usize = 3088;
+
+// The length field, and its two bytes.
+const LENGTH: u16 = SIZE as u16;
+const LENGTH_LOW: u8 = (SIZE % 256) as u8;
+const LENGTH_HIGH: u8 = (SIZE / 256) as u8;
 
 fn wide(b: u8) -> u16
     ensures { λ r. ⌜ (r ≡ b) × (r < 256) ⌝ }
@@ -29,7 +41,7 @@ pub fn word(bytes: &[u8], at: usize) -> u16
 
 // The dimension that a record says.
 pub fn dimension(bytes: &[u8]) -> u8
-    requires { ⌜ length (now bytes) ≡ 3088 ⌝ }
+    requires { ⌜ length (now bytes) ≡ recordSize ⌝ }
     ensures { λ r. ⌜ r ≡ decode (now (bytes .entry)) .n ⌝ }
 {
     let n = bytes[4];
@@ -49,7 +61,7 @@ fn load_bytes(bytes: &[u8], at: usize, part: &mut [u8])
 }
 
 pub fn load_map(bytes: &[u8]) -> [u8; 10]
-    requires { ⌜ length (now bytes) ≡ 3088 ⌝ }
+    requires { ⌜ length (now bytes) ≡ recordSize ⌝ }
     ensures { λ r. ⌜ r ≡ decode (now (bytes .entry)) .map ⌝ }
 {
     let mut map = [0; 10];
@@ -58,30 +70,30 @@ pub fn load_map(bytes: &[u8]) -> [u8; 10]
 }
 
 fn load_holders(bytes: &[u8]) -> [u16; 1024]
-    requires { ⌜ length (now bytes) ≡ 3088 ⌝ }
+    requires { ⌜ length (now bytes) ≡ recordSize ⌝ }
     ensures { λ r. ⌜ r ≡ decode (now (bytes .entry)) .holders ⌝ }
 {
     let mut holders = [0; 1024];
     let mut x = 0;
     while x < 1024 {
-        holders[x] = word(bytes, 16 + 2 * x);
+        holders[x] = word(bytes, HOLDERS + 2 * x);
         x += 1;
     }
     holders
 }
 
 fn load_conditions(bytes: &[u8]) -> [u8; 1024]
-    requires { ⌜ length (now bytes) ≡ 3088 ⌝ }
+    requires { ⌜ length (now bytes) ≡ recordSize ⌝ }
     ensures { λ r. ⌜ r ≡ decode (now (bytes .entry)) .conditions ⌝ }
 {
     let mut conditions = [0; 1024];
-    load_bytes(bytes, 2064, &mut conditions);
+    load_bytes(bytes, CONDITIONS, &mut conditions);
     conditions
 }
 
 // The state that a record says.
 pub fn load(bytes: &[u8]) -> State
-    requires { ⌜ length (now bytes) ≡ 3088 ⌝ }
+    requires { ⌜ length (now bytes) ≡ recordSize ⌝ }
     ensures { λ s. ⌜ s ≡ decode (now (bytes .entry)) ⌝ }
 {
     let n = dimension(bytes);
@@ -98,10 +110,10 @@ pub fn load(bytes: &[u8]) -> State
 
 // Length, kind and the zero byte are a record's.
 pub fn head_right(bytes: &[u8]) -> bool
-    requires { ⌜ length (now bytes) ≡ 3088 ⌝ }
+    requires { ⌜ length (now bytes) ≡ recordSize ⌝ }
     ensures { λ r. ⌜ r ≡ headRight (now (bytes .entry)) ⌝ }
 {
-    if word(bytes, 0) != 3088 {
+    if word(bytes, 0) != LENGTH {
         return false;
     }
     if word(bytes, 2) != 1 {
@@ -141,23 +153,23 @@ pub fn all_zero(part: &[u8]) -> bool
 
 // "Nodes from 2^n up have holder and condition 0", and below it "conditions up to 2"; `size` is 2^n.
 fn nodes_right(bytes: &[u8], size: usize) -> bool
-    requires { ⌜ (length (now bytes) ≡ 3088) × (size ≤ 1024) ⌝ }
+    requires { ⌜ (length (now bytes) ≡ recordSize) × (size ≤ 1024) ⌝ }
     ensures { λ r. ⌜ r ≡ nodesRight (decode (now (bytes .entry)) .holders) (decode (now (bytes .entry)) .conditions) size ⌝ }
 {
-    let nodes = 2064 + size;
-    if 2 < highest(&bytes[2064..nodes]) {
+    let nodes = CONDITIONS + size;
+    if 2 < highest(&bytes[CONDITIONS..nodes]) {
         return false;
     }
-    if !all_zero(&bytes[nodes..3088]) {
+    if !all_zero(&bytes[nodes..CONDITIONS_END]) {
         return false;
     }
-    let held = 16 + 2 * size;
-    all_zero(&bytes[held..2064])
+    let held = HOLDERS + 2 * size;
+    all_zero(&bytes[held..CONDITIONS])
 }
 
 // Whether the state that a record says is as "Node and record" has it; no more than the map is loaded.
 fn state_right(bytes: &[u8]) -> bool
-    requires { ⌜ length (now bytes) ≡ 3088 ⌝ }
+    requires { ⌜ length (now bytes) ≡ recordSize ⌝ }
     ensures { λ r. ⌜ r ≡ valid (decode (now (bytes .entry))) ⌝ }
 {
     let n = dimension(bytes);
@@ -175,7 +187,7 @@ fn state_right(bytes: &[u8]) -> bool
 pub fn is_valid(bytes: &[u8]) -> bool
     ensures { λ r. ⌜ r ≡ validRecord (now (bytes .entry)) ⌝ }
 {
-    if bytes.len() != 3088 {
+    if bytes.len() != SIZE {
         return false;
     }
     if !head_right(bytes) {
@@ -186,17 +198,17 @@ pub fn is_valid(bytes: &[u8]) -> bool
 
 // The first 16 bytes: length, kind, n, the map and the zero byte. The others stay.
 fn put_head(s: State, bytes: &mut [u8])
-    requires { ⌜ length (now bytes) ≡ 3088 ⌝ }
-    ensures { λ _. ⌜ Stored s (now (bytes .entry)) 16 (now (bytes .exit)) ⌝ }
+    requires { ⌜ length (now bytes) ≡ recordSize ⌝ }
+    ensures { λ _. ⌜ Stored s (now (bytes .entry)) holdersAt (now (bytes .exit)) ⌝ }
 {
-    bytes[0] = 16;
-    bytes[1] = 12;
+    bytes[0] = LENGTH_LOW;
+    bytes[1] = LENGTH_HIGH;
     bytes[2] = 1;
     bytes[3] = 0;
     bytes[4] = s.n;
     let mut i = 0;
     while i < 10 {
-        bytes[5 + i] = s.map[i];
+        bytes[MAP + i] = s.map[i];
         i += 1;
     }
     bytes[15] = 0;
@@ -204,32 +216,32 @@ fn put_head(s: State, bytes: &mut [u8])
 
 // The holders after them. The others stay.
 fn put_holders(s: State, bytes: &mut [u8])
-    requires { ⌜ Begun s 16 (now bytes) ⌝ }
-    ensures { λ _. ⌜ Stored s (now (bytes .entry)) 2064 (now (bytes .exit)) ⌝ }
+    requires { ⌜ Begun s holdersAt (now bytes) ⌝ }
+    ensures { λ _. ⌜ Stored s (now (bytes .entry)) conditionsAt (now (bytes .exit)) ⌝ }
 {
     let mut x = 0;
     while x < 1024 {
         let h = s.holders[x];
-        bytes[16 + 2 * x] = (h % 256) as u8;
-        bytes[16 + 2 * x + 1] = (h / 256) as u8;
+        bytes[HOLDERS + 2 * x] = (h % 256) as u8;
+        bytes[HOLDERS + 2 * x + 1] = (h / 256) as u8;
         x += 1;
     }
 }
 
 fn put_conditions(s: State, bytes: &mut [u8])
-    requires { ⌜ Begun s 2064 (now bytes) ⌝ }
+    requires { ⌜ Begun s conditionsAt (now bytes) ⌝ }
     ensures { λ _. ⌜ now (bytes .exit) ≡ encode s ⌝ }
 {
     let mut x = 0;
     while x < 1024 {
-        bytes[2064 + x] = s.conditions[x];
+        bytes[CONDITIONS + x] = s.conditions[x];
         x += 1;
     }
 }
 
 // The record that says a state.
 pub fn store(s: State, bytes: &mut [u8])
-    requires { ⌜ length (now bytes) ≡ 3088 ⌝ }
+    requires { ⌜ length (now bytes) ≡ recordSize ⌝ }
     ensures { λ _. ⌜ now (bytes .exit) ≡ encode s ⌝ }
 {
     put_head(s, bytes);

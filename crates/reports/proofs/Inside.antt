@@ -9,7 +9,7 @@ use lib.Dec.{leb}
 use lib.ListN.{length}
 use lib.Pow.{pow-mono}
 use Rattle.state.specs.Acts.{nodeCount}
-use Rattle.record.specs.Layout.{decode, headRight, validRecord}
+use Rattle.record.specs.Layout.{recordSize, decode, headRight, validRecord}
 use Rattle.record.proofs.Round.{record-says}
 use Rattle.steps.proofs.Ways.{state-valid}
 
@@ -22,8 +22,8 @@ module _ (r : List ℕ) (x : ℕ) {b : Bool} (e : b ≡ leb (nodeCount (decode r
 
   module _ (v : validRecord r ≡ true) (h : b ≡ false) where
     -- it is one of the 1024
-    pub node-asked : (length r ≡ 3088) × (x < 1024)
+    pub node-asked : (length r ≡ recordSize) × (x < 1024)
     node-asked = (record-says r v .long, lt-of-lt-of-le (inside h) (pow-mono (state-valid r v .small)))
 
-    pub node-written : (length r ≡ 3088) × ((x < 1024) × (headRight r ≡ true))
+    pub node-written : (length r ≡ recordSize) × ((x < 1024) × (headRight r ≡ true))
     node-written = (node-asked .0, (node-asked .1, record-says r v .head))

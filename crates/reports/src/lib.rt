@@ -8,7 +8,7 @@ ghost use Prim.Native.Nat.{_^_, _<_};
 ghost use lib.ListN.{length};
 ghost use lib.Dec.{leb};
 ghost use Rattle.state.specs.Acts.{allowed, toldOf, reportStep};
-ghost use Rattle.record.specs.Layout.{validRecord, decode};
+ghost use Rattle.record.specs.Layout.{recordSize, validRecord, decode};
 ghost use Rattle.steps.specs.Carried.{Does};
 
 // Whether x is none of the cube's nodes.
@@ -32,7 +32,7 @@ fn is_allowed(reported: u8, condition: u8) -> bool
 
 // What a report of node x is told: for a fault the holder, which stays.
 fn told_of(rec: &[u8], x: Node, reported: u8) -> u16
-    requires { ⌜ (length (now rec) ≡ 3088) × (x .0 < 1024) ⌝ }
+    requires { ⌜ (length (now rec) ≡ recordSize) × (x .0 < 1024) ⌝ }
     ensures { λ r. ⌜ r ≡ toldOf (decode (now (rec .entry))) (x .0) reported ⌝ }
 {
     if reported == 2 {

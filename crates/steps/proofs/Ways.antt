@@ -14,7 +14,7 @@ use Rattle.state.specs.declared.Step.{Step}
 use Rattle.state.specs.Valid.{Valid}
 use Rattle.state.specs.Acts.{numberOf, step, refuse}
 use Rattle.state.proofs.Valid.{means-valid}
-use Rattle.record.specs.Layout.{encode, decode, headRight, validRecord}
+use Rattle.record.specs.Layout.{recordSize, encode, decode, headRight, validRecord}
 use Rattle.record.proofs.Round.{sized-decode, record-says}
 use Rattle.steps.specs.Carried.{Does, Carried}
 
@@ -24,7 +24,7 @@ pub state-valid : (r : List ℕ) → validRecord r ≡ true → Valid (decode r)
 state-valid r v = means-valid (decode r) (sized-decode r .directions) .holds (record-says r v .state)
 
 module _ (r : List ℕ) (v : validRecord r ≡ true) where
-  pub whole : (length r ≡ 3088) × (headRight r ≡ true)
+  pub whole : (length r ≡ recordSize) × (headRight r ≡ true)
   whole = (record-says r v .long, record-says r v .head)
 
 -- ---- a step done to a record

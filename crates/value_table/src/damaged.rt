@@ -39,7 +39,7 @@ fn others(before: State, rec: &mut [u8]) {
 
 fn state(change: u32) {
     let s = changed(change);
-    let mut rec = [0; 3088];
+    let mut rec = [0; record::SIZE];
     record::store(s, &mut rec);
     print::text(b"damaged");
     print::next(change);

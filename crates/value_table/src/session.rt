@@ -42,7 +42,7 @@ fn calls(n: u16, start: State, rec: &mut [u8])
 fn session(n: u16)
     requires { ⌜ n ≤ 10 ⌝ }
 {
-    let mut rec = [0; 3088];
+    let mut rec = [0; record::SIZE];
     cube::cube_setup(&mut rec, n as u32);
     let s = good_but_half(n, State::fresh(n as u8), &mut rec);
     print::text(b"session");

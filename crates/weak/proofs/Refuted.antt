@@ -28,7 +28,7 @@ use Rattle.state.specs.States.{withHolders, given}
 use Rattle.state.specs.Valid.{anyBelow, Valid}
 use Rattle.state.specs.Acts.{numberOf, anyHeld, requestStep}
 use Rattle.state.proofs.Valid.{means-valid}
-use Rattle.record.specs.Layout.{words, encode, decode, validRecord}
+use Rattle.record.specs.Layout.{holdersAt, recordSize, words, encode, decode, validRecord}
 use Rattle.frames.specs.Answer.{frameOf, written}
 use Rattle.record.proofs.Round.{Sized, decode-holder, sized-decode, encode-holder, valid-encode}
 use Rattle.frames.specs.declared.Parsed.the-variants.{Known}
@@ -94,7 +94,7 @@ tried-two (Granted j low stars t) p e w = let same : _≡_ {A = ℕ} 1 2 = ap (�
 tried-two (Refused m t) p e w = let same : _≡_ {A = ℕ} 0x8002 0x8001 = ap (λ (p : List ℕ). word p 2) e in absurd (omega arith)
 tried-two (Done v) p e w = let same : _≡_ {A = ℕ} 0x8003 0x8001 = ap (λ (p : List ℕ). word p 2) e in absurd (omega arith)
 
-module _ (b : List ℕ) (whole : length b ≡ 3088) where
+module _ (b : List ℕ) (whole : length b ≡ recordSize) where
   one-node : Demand3 delivered 0 b
   one-node = demand3 0 (omega arith) b whole
 
@@ -176,7 +176,7 @@ module _ (b : List ℕ) (whole : length b ≡ 3088) where
   -- ---- the record after the call
 
   -- a record that is stored as it was has the holders that it had
-  kept : (r : List ℕ) (x : ℕ) → x < 1024 → word (encode (decode r)) (16 + 2 * x) ≡ word r (16 + 2 * x)
+  kept : (r : List ℕ) (x : ℕ) → x < 1024 → word (encode (decode r)) (holdersAt + 2 * x) ≡ word r (holdersAt + 2 * x)
   kept r x h = encode-holder (decode r) (sized-decode r) x h ∙ decode-holder r x h
 
   record-wrong : ¬ HoldersRight (asking unrecorded) 0 b

@@ -17,7 +17,7 @@ use Rattle.history.specs.Verdicts.{done, verdict}
 use Rattle.state.specs.declared.Call.the-variants.{Good, Relabel}
 use Rattle.state.specs.States.{withMap}
 use Rattle.state.specs.Acts.{anyHeld}
-use Rattle.record.specs.Layout.{words, encode, decode}
+use Rattle.record.specs.Layout.{recordSize, words, encode, decode}
 use Rattle.record.proofs.Round.{decode-holder, decode-condition, encode-map, sized-decode}
 use Rattle.frames.specs.Answer.{frameOf}
 use Rattle.cube.specs.Called.{delivered}
@@ -32,7 +32,7 @@ use Rattle.weak.proofs.Frames.{good, one, across, relabels, parsed-0, p
 use Rattle.weak.proofs.Holding.{dimension-of, none-held}
 use Rattle.weak.proofs.Made.{same-call, reply-is, record-is}
 
-module _ (b : List ℕ) (whole : length b ≡ 3088) where
+module _ (b : List ℕ) (whole : length b ≡ recordSize) where
   -- after calls that leave the delivered program's record, with no node held
   module _ (n : ℕ) (small : n ≤ 10) (mapped sized : Over) (es : Exchanges)
       (same : recordAfter (by (relabelling mapped sized)) n b es ≡ recordAfter delivered n b es)

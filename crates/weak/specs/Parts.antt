@@ -7,6 +7,7 @@ use Rattle.history.specs.Calls.{request, kind, word}
 use Rattle.history.specs.Causes.{First, NoneMet, NoMemberFree, earlier, causes}
 use Rattle.history.specs.Verdicts.{refused, tried, verdict}
 use Rattle.history.specs.Held.{Disjoint}
+use Rattle.record.specs.Layout.{holdersAt}
 use Rattle.cube.specs.Called.{Program}
 use Rattle.cube.specs.Demand3.{Demand3}
 use Rattle.cube.specs.Run.{Exchange, Exchanges, fed, replies, recordAfter, number, reply, heldAt, historyAt}
@@ -31,7 +32,7 @@ module _ (P : Program) (n : ℕ) (b : List ℕ) where
 
   -- 2: record after the call; 3: over the list
   abbrev pub HoldersRight : Type 0
-  HoldersRight = (es : Exchanges) (x : ℕ) → x < 2 ^ n → word (recordAfter P n b es) (16 + 2 * x) ≡ historyAt n es .holder x
+  HoldersRight = (es : Exchanges) (x : ℕ) → x < 2 ^ n → word (recordAfter P n b es) (holdersAt + 2 * x) ≡ historyAt n es .holder x
 
   -- 2: place in the order
   abbrev pub ReplyRight : Type 0

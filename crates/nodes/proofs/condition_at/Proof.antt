@@ -6,6 +6,7 @@ use lib.ListN.{getD}
 use Rattle.record.proofs.Round.{decode-condition}
 use Rattle.nodes.proofs.condition_at.Statement.{statement}
 use Rattle.nodes.proofs.condition_at.Tie as tie
+use Rattle.record.specs.Layout.{conditionsAt}
 
 index-requires : tie.Need-index-requires
 index-requires c κs = search needs
@@ -19,7 +20,7 @@ shared-slice-read-result c = search needs
 returns : tie.Need-returns
 returns c =
     let start = c .before .before .before in
-    ap (λ (i : ℕ). getD (start .args .bytes .now) (2064 + i) 0) (c .before .index .ensures) ∙ sym (decode-condition _ _ (start .pre .1))
+    ap (λ (i : ℕ). getD (start .args .bytes .now) (conditionsAt + i) 0) (c .before .index .ensures) ∙ sym (decode-condition _ _ (start .pre .1))
 
 pub condition-at-spec : {M : Type 1} → statement M
 condition-at-spec = tie.close (tie.spec index-requires add-result shared-slice-read-result returns)

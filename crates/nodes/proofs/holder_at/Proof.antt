@@ -6,6 +6,7 @@ use Rattle.history.specs.Calls.{word}
 use Rattle.record.proofs.Round.{decode-holder}
 use Rattle.nodes.proofs.holder_at.Statement.{statement}
 use Rattle.nodes.proofs.holder_at.Tie as tie
+use Rattle.record.specs.Layout.{holdersAt}
 
 index-requires : tie.Need-index-requires
 index-requires c κs = search needs
@@ -22,7 +23,7 @@ word-requires c κs = search needs
 returns : tie.Need-returns
 returns c =
     let start = c .before .before .before in
-    c .word .ensures ∙ ap (λ (i : ℕ). word (start .args .bytes .now) (16 + 2 * i)) (c .before .index .ensures)
+    c .word .ensures ∙ ap (λ (i : ℕ). word (start .args .bytes .now) (holdersAt + 2 * i)) (c .before .index .ensures)
     ∙ sym (decode-holder _ _ (start .pre .1))
 
 pub holder-at-spec : {M : Type 1} → statement M

@@ -9,6 +9,7 @@ use Rattle.record.proofs.Round.{encode-decode, sized-decode}
 use Rattle.nodes.proofs.InPlace.{set-condition-entry}
 use Rattle.nodes.proofs.set_condition.Statement.{statement}
 use Rattle.nodes.proofs.set_condition.Tie as tie
+use Rattle.record.specs.Layout.{conditionsAt}
 
 index-requires : tie.Need-index-requires
 index-requires c κs = search needs
@@ -26,8 +27,8 @@ returns : tie.Need-returns
 returns c =
     let start = c .before .before in
     let v = start .args .condition in
-    let at = 2064 + start .args .x .0 in
-    ap (λ (i : ℕ). set (start .args .bytes .now) (2064 + i) v) (c .index .ensures)
+    let at = conditionsAt + start .args .x .0 in
+    ap (λ (i : ℕ). set (start .args .bytes .now) (conditionsAt + i) v) (c .index .ensures)
     ∙ ap (λ (l : List ℕ). set l at v) (sym (encode-decode _ (start .pre .0) (λ i. omega (arith, c .before .slice-known .given i)) (start .pre .1 .1)))
     ∙ set-condition-entry _ (sized-decode _) _ v
 

@@ -5,6 +5,7 @@ use mathlib.Core.Path.{sym, ap, _∙_}
 use mathlib.Core.List.{List}
 use native.Mathlib.Omega.{arith}
 use lib.ListN.{set}
+use Rattle.record.specs.Layout.{mapAt}
 use Rattle.record.proofs.Round.{sized-decode, encoded-long}
 use Rattle.nodes.proofs.InPlace.{set-map-entry}
 use Rattle.nodes.proofs.set_direction.Statement.{statement}
@@ -23,7 +24,7 @@ returns : tie.Need-returns
 returns c =
     let i = c .args .i in
     let v = c .args .direction in
-    ap (λ (l : List ℕ). set l (5 + i) v) (sym (c .pre .0)) ∙ set-map-entry _ (sized-decode _) i v (c .pre .1)
+    ap (λ (l : List ℕ). set l (mapAt + i) v) (sym (c .pre .0)) ∙ set-map-entry _ (sized-decode _) i v (c .pre .1)
 
 pub set-direction-spec : {M : Type 1} → statement M
 set-direction-spec = tie.close (tie.spec add-bytes slice-write-bytes same-length returns)

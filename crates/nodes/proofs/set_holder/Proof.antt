@@ -9,6 +9,7 @@ use Rattle.record.proofs.Round.{sized-decode, encoded-long}
 use Rattle.nodes.proofs.InPlace.{set-holder-entry}
 use Rattle.nodes.proofs.set_holder.Statement.{statement}
 use Rattle.nodes.proofs.set_holder.Tie as tie
+use Rattle.record.specs.Layout.{holdersAt}
 
 cast-bytes : tie.Need-cast-bytes
 cast-bytes c = search needs
@@ -44,7 +45,7 @@ returns : tie.Need-returns
 returns c =
     let x = c .args .x in
     let v = c .args .job in
-    ap (λ (l : List ℕ). set (set l (16 + 2 * x) (v % 256)) (16 + 2 * x + 1) (v / 256))
+    ap (λ (l : List ℕ). set (set l (holdersAt + 2 * x) (v % 256)) (holdersAt + 2 * x + 1) (v / 256))
     (sym (c .pre .0))
     ∙ set-holder-entry _ (sized-decode _) x v (c .pre .1)
 

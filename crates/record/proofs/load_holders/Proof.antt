@@ -5,12 +5,12 @@ use native.Mathlib.Omega.{arith}
 use Rattle.history.specs.Calls.{word}
 use Rattle.hypercube.specs.Filled.{Filled}
 use Rattle.hypercube.proofs.Filled.{filled-none, filled-next, filled-all}
-use Rattle.record.specs.Layout.{decode}
+use Rattle.record.specs.Layout.{holdersAt, decode}
 use Rattle.record.proofs.load_holders.Statement.{statement}
 use Rattle.record.proofs.load_holders.Tie as tie
 
 abbrev Inv-loop : tie.InvT-loop
-Inv-loop bytes holders₀ x₀ holders x = Filled (λ k. word bytes (16 + 2 * k)) 0 1024 x holders
+Inv-loop bytes holders₀ x₀ holders x = Filled (λ k. word bytes (holdersAt + 2 * k)) 0 1024 x holders
 
 abbrev μ-loop : tie.MeasureT-loop
 μ-loop bytes holders₀ x₀ holders x = 1024 - x

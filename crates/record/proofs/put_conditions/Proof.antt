@@ -4,6 +4,7 @@ use mathlib.Core.Path.{sym, _∙_}
 use native.Mathlib.Omega.{arith}
 use borrow.Author.Needs.{needs}
 use Rattle.hypercube.proofs.Filled.{filled-next, filled-to}
+use Rattle.record.specs.Layout.{conditionsAt, recordSize}
 use Rattle.record.specs.Stored.{Begun}
 use Rattle.record.proofs.Round.{Sized, encode-condition}
 use Rattle.record.proofs.Stored.{stored-all}
@@ -11,7 +12,7 @@ use Rattle.record.proofs.put_conditions.Statement.{statement}
 use Rattle.record.proofs.put_conditions.Tie as tie
 
 abbrev Inv-loop : tie.InvT-loop
-Inv-loop bytes₀ s x₀ bytes x = (x ≤ 1024) × Begun s (2064 + x) bytes
+Inv-loop bytes₀ s x₀ bytes x = (x ≤ 1024) × Begun s (conditionsAt + x) bytes
 
 abbrev μ-loop : tie.MeasureT-loop
 μ-loop bytes₀ s x₀ bytes x = 1024 - x
@@ -46,7 +47,7 @@ same-length : tie.Need-same-length Inv-loop μ-loop
 same-length c = c .before .loop .inv .1 .long ∙ sym (c .before .before .pre .long)
 
 returns : tie.Need-returns Inv-loop μ-loop
-returns c = stored-all (sized (c .before .before)) (filled-to 3088 (c .before .loop .inv .1) (omega arith))
+returns c = stored-all (sized (c .before .before)) (filled-to recordSize (c .before .loop .inv .1) (omega arith))
 
 pub put-conditions-spec : {M : Type 1} → statement M
 put-conditions-spec =

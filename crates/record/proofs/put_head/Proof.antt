@@ -1,10 +1,10 @@
 -- `record::put_head` meets its contract: the first five bytes by themselves, the map by a loop, then the zero byte. Assumes nothing.
-use Prim.Native.Nat.{_+_, _-_, _≤_}
+use Prim.Native.Nat.{_+_, _-_, _/_, _%_, _≤_}
 use mathlib.Core.Path.{refl, sym, _∙_}
 use native.Mathlib.Omega.{arith}
 use borrow.Author.Needs.{needs}
 use lib.ListN.{set, length-set}
-use Rattle.record.specs.Layout.{encode}
+use Rattle.record.specs.Layout.{recordSize, mapAt, encode}
 use Rattle.record.specs.Stored.{Stored}
 use Rattle.record.proofs.Round.{Sized, encode-map, encode-zero}
 use Rattle.record.proofs.Stored.{stored-from, stored-none, stored-next, stored-then, stored-to}
@@ -12,7 +12,7 @@ use Rattle.record.proofs.put_head.Statement.{statement}
 use Rattle.record.proofs.put_head.Tie as tie
 
 abbrev Inv-loop : tie.InvT-loop
-Inv-loop bytes₀ s i₀ bytes i = (i ≤ 10) × Stored s bytes₀ (5 + i) bytes
+Inv-loop bytes₀ s i₀ bytes i = (i ≤ 10) × Stored s bytes₀ (mapAt + i) bytes
 
 abbrev μ-loop : tie.MeasureT-loop
 μ-loop bytes₀ s i₀ bytes i = 10 - i
@@ -37,11 +37,11 @@ slice-write-bytes-5 c = simp length-set (omega arith)
 
 -- before the loop
 five : (c : tie.Start Inv-loop μ-loop) → let r = c .args .bytes .now in
-    Stored (c .args .t1) r 5 (set (set (set (set (set r 0 16) 1 12) 2 1) 3 0) 4 (c .args .t1 .n))
+    Stored (c .args .t1) r mapAt (set (set (set (set (set r 0 (recordSize % 256)) 1 (recordSize / 256)) 2 1) 3 0) 4 (c .args .t1 .n))
 unfolding encode
 five c =
     let h0 : Stored (c .args .t1) (c .args .bytes .now) 0 (c .args .bytes .now) = stored-none (c .pre) in
-    let h2 = stored-next 12 (stored-next 16 h0 (omega arith) refl) (omega arith) refl in
+    let h2 = stored-next (recordSize / 256) (stored-next (recordSize % 256) h0 (omega arith) refl) (omega arith) refl in
     let h4 = stored-next 0 (stored-next 1 h2 (omega arith) refl) (omega arith) refl in
     stored-next _ h4 (omega arith) refl
 

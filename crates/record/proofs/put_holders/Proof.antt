@@ -6,6 +6,7 @@ use borrow.Author.Needs.{needs}
 use mir.Syntax.{w16}
 use mir.Val.{Fits}
 use lib.ListN.{getD, length-set}
+use Rattle.record.specs.Layout.{conditionsAt, holdersAt}
 use Rattle.record.specs.Stored.{Stored}
 use Rattle.record.proofs.Round.{Sized, encode-low, encode-high}
 use Rattle.record.proofs.Stored.{stored-from, stored-next, stored-to}
@@ -13,7 +14,7 @@ use Rattle.record.proofs.put_holders.Statement.{statement}
 use Rattle.record.proofs.put_holders.Tie as tie
 
 abbrev Inv-loop : tie.InvT-loop
-Inv-loop bytes₀ s x₀ bytes x = (x ≤ 1024) × Stored s bytes₀ (16 + 2 * x) bytes
+Inv-loop bytes₀ s x₀ bytes x = (x ≤ 1024) × Stored s bytes₀ (holdersAt + 2 * x) bytes
 
 abbrev μ-loop : tie.MeasureT-loop
 μ-loop bytes₀ s x₀ bytes x = 1024 - x
@@ -77,7 +78,7 @@ same-length : tie.Need-same-length Inv-loop μ-loop
 same-length c = c .before .loop .inv .1 .begun .long ∙ sym (c .before .before .pre .long)
 
 returns : tie.Need-returns Inv-loop μ-loop
-returns c = stored-to 2064 (c .before .loop .inv .1) (omega arith)
+returns c = stored-to conditionsAt (c .before .loop .inv .1) (omega arith)
 
 pub put-holders-spec : {M : Type 1} → statement M
 put-holders-spec =
