@@ -3,7 +3,7 @@ use Prim.Native.Nat.{ℕ, _+_, _*_, _^_, _<_, _≤_}
 use mathlib.Core.Path.{_≡_}
 use mathlib.Core.Logic.{_↔_, _≢_}
 use mathlib.Core.Bool.{true}
-use mathlib.Core.List.{List}
+use mathlib.Core.List.{List, []}
 use lib.ListN.{length, getD}
 use Rattle.hypercube.specs.Lists.{FirstWith}
 use Rattle.hypercube.specs.Labels.{node}
@@ -12,10 +12,11 @@ use Rattle.history.specs.Calls.{request, kind, job, word}
 use Rattle.history.specs.Account.{History, fresh, AllFree}
 use Rattle.history.specs.Causes.{First, NoneMet, NoMemberFree, asked, earlier, causes}
 use Rattle.history.specs.Verdicts.{granted, refused, tried, verdict}
+use Rattle.history.specs.Held.{Held}
 use Rattle.history.specs.Claims.{HeldRight}
 use Rattle.record.specs.Layout.{conditionsAt, holdersAt, recordSize, validRecord}
 use Rattle.cube.specs.Called.{Program}
-use Rattle.cube.specs.Run.{Exchange, Exchanges, _next_, fed, feed, returns, replies, recordAfter, number, reply, heldAt, historyAt}
+use Rattle.cube.specs.Run.{Exchange, Exchanges, _next_, fed, feed, returns, replies, recordAfter, number, reply, heldAt, historyFrom}
 
 -- a request is replied 'granted' with its job and the lowest node, star bits and place of the first free member of its family
 pub record Gets (n : ℕ) (h : History) (e : Exchange) (p′ : List ℕ) : Type 0 where
@@ -52,10 +53,15 @@ pub record Recorded (n : ℕ) (h : History) (r₀ r : List ℕ) : Type 0 where
   pub holders-beyond : (x : ℕ) → 2 ^ n ≤ x → x < 1024 → word r (holdersAt + 2 * x) ≡ word r₀ (holdersAt + 2 * x)
   pub conditions-beyond : (x : ℕ) → 2 ^ n ≤ x → x < 1024 → getD r (conditionsAt + x) 0 ≡ getD r₀ (conditionsAt + x) 0
 
--- of the program P, for a cube of dimension n set up on the buffer b: every list of calls, and every call after it
+-- of the program P, for a list that begins at the record r of a cube of dimension n, where the history is s and the subcubes gs are held:
+-- every list of calls, and every call after it
+pub record ListRight (P : Program) (n : ℕ) (r : List ℕ) (s : History) (gs : List Held) : Type 0 where
+  pub calls : (es : Exchanges) (e : Exchange)
+      → Judged n (historyFrom n s es) e (number P r es e) (reply P r es e) (recordAfter P r es) (recordAfter P r (es next e))
+  pub recorded : (es : Exchanges) → Recorded n (historyFrom n s es) r (recordAfter P r es)
+  pub held : (es : Exchanges) → HeldRight n s (feed es) (heldAt P r gs es)
+
+-- for a cube of dimension n set up on the buffer b: the list begins at the record as set-up left it
 pub record Demand3 (P : Program) (n : ℕ) (b : List ℕ) : Type 0 where
   pub set-up : P .setup-number b n ≡ 0
-  pub calls : (es : Exchanges) (e : Exchange)
-      → Judged n (historyAt n es) e (number P n b es e) (reply P n b es e) (recordAfter P n b es) (recordAfter P n b (es next e))
-  pub recorded : (es : Exchanges) → Recorded n (historyAt n es) (P .setup-record b n) (recordAfter P n b es)
-  pub held : (es : Exchanges) → HeldRight n fresh (feed es) (heldAt P n b es)
+  pub list : ListRight P n (P .setup-record b n) fresh []

@@ -49,11 +49,11 @@ heard number p =
     (cond (eqb (word p 2) 0x8001) (granted (word p 4) (word p 6) (word p 8) (word p 10)) (done (word p 4)))
     (cond (eqb number 2) (refused 2 0) (refused number (word p 6)))
 
--- the program P on a cube of dimension n
-module _ (P : Program) (n : ℕ) (b : List ℕ) where
-  -- set-up on the buffer b, then each call gets the record that the last one left
+-- the program P on the record r, at which the list begins
+module _ (P : Program) (r : List ℕ) where
+  -- each call gets the record that the last one left
   abbrev pub recordAfter : Exchanges → List ℕ
-  recordAfter begin = P .setup-record b n
+  recordAfter begin = r
   recordAfter (es next e) = P .call-record (recordAfter es) (e .frame) (e .buffer)
 
   -- what the call e is answered after the calls es
@@ -63,11 +63,16 @@ module _ (P : Program) (n : ℕ) (b : List ℕ) where
   abbrev pub reply : Exchanges → Exchange → List ℕ
   reply es e = P .call-reply (recordAfter es) (e .frame) (e .buffer)
 
-  -- "A held subcube is the one that a job was last granted, if no release by that job was accepted since", by what was replied
-  abbrev pub heldAt : Exchanges → List Held
-  heldAt begin = []
-  heldAt (es next e) = heldAfter (feed es) (fed e) (heard (number es e) (reply es e)) (heldAt es)
+  -- "A held subcube is the one that a job was last granted, if no release by that job was accepted since", by what was replied;
+  -- gs are held where the list begins
+  abbrev pub heldAt : List Held → Exchanges → List Held
+  heldAt gs begin = gs
+  heldAt gs (es next e) = heldAfter (feed es) (fed e) (heard (number es e) (reply es e)) (heldAt gs es)
 
--- the history after the calls es on a fresh cube
+-- the history after the calls es, from s
+abbrev pub historyFrom : ℕ → History → Exchanges → History
+historyFrom n s es = after n s (feed es)
+
+-- on a fresh cube
 abbrev pub historyAt : ℕ → Exchanges → History
-historyAt n es = after n fresh (feed es)
+historyAt n es = historyFrom n fresh es

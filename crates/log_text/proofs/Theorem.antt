@@ -99,21 +99,21 @@ total-more t (Refused m k) = refl
 
 module _ (n : ℕ) (small : n ≤ 10) (b : List ℕ) (whole : length b ≡ recordSize) where
   -- a later frame is told what the history says
-  later-told : (es : Exchanges) (f : List ℕ) → laterOutcome (recordAfter delivered n b es) f ≡ outcomeBy n es f
+  later-told : (es : Exchanges) (f : List ℕ) → laterOutcome (recordAfter delivered (setupRecord b n) es) f ≡ outcomeBy n es f
   unfolding laterOutcome
   later-told es f =
-      read-heard (number delivered n b es (calls f)) (reply delivered n b es (calls f)) _ (heard-is n small b whole es (calls f))
-      (demand3 n small b whole .calls es (calls f) .replied)
+      read-heard (number delivered (setupRecord b n) es (calls f)) (reply delivered (setupRecord b n) es (calls f)) _ (heard-is n small b whole es (calls f))
+      (demand3 n small b whole .list .calls es (calls f) .replied)
 
   -- the lines of the frames, up to m of them, and what is printed of the rest
   module _ (rest : List ℕ) (e : Next) (m : ℕ) (few : m ≤ 4294967295)
       (finish : (t : Tally) (r : List ℕ) → t .total ≡ m → Prints t r rest (ending t e)) where
     later-lines : (fs : List (List ℕ)) (t : Tally) (es : Exchanges) → Whole fs → t .total ≢ 0 → t .total + length fs ≡ m
-        → Prints t (recordAfter delivered n b es) (joined fs rest) (linesBy n t es fs e)
-    later-lines [] t es w z h = finish t (recordAfter delivered n b es) (omega arith)
+        → Prints t (recordAfter delivered (setupRecord b n) es) (joined fs rest) (linesBy n t es fs e)
+    later-lines [] t es w z h = finish t (recordAfter delivered (setupRecord b n) es) (omega arith)
     later-lines (f ∷ fs) t es w z h =
         let more = joined fs rest in
-        let r = recordAfter delivered n b es in
+        let r = recordAfter delivered (setupRecord b n) es in
         let o = outcomeBy n es f in
         let below : t .total ≢ 4294967295 = λ k. omega arith in
         let up = total-more t o in

@@ -7,19 +7,19 @@ use Rattle.weak.specs.Parts.{NoneFreeRight, RefusalRight, HeldDisjoint, 
 
 module _ (P : Program) (n : ℕ) (b : List ℕ) (d : Demand3 P n b) where
   pub none-free : NoneFreeRight P n b
-  none-free es e asks first said = d .calls es e .none-free asks first .0 said
+  none-free es e asks first said = d .list .calls es e .none-free asks first .0 said
 
   pub refusal : RefusalRight P n b
-  refusal es e = d .calls es e .refusal
+  refusal es e = d .list .calls es e .refusal
 
   pub disjoint : HeldDisjoint P n b
-  disjoint es = d .held es .disjoint
+  disjoint es = d .list .held es .disjoint
 
   pub holders : HoldersRight P n b
-  holders es = d .recorded es .holders
+  holders es = d .list .recorded es .holders
 
   pub replied : ReplyRight P n b
-  replied es e = d .calls es e .replied
+  replied es e = d .list .calls es e .replied
 
 -- a program without a part that follows is without demand 3
 pub breaks : (Part : Program → ℕ → List ℕ → Type 0) → ((P : Program) (n : ℕ) (b : List ℕ) → Demand3 P n b → Part P n b)

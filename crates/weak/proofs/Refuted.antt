@@ -33,7 +33,7 @@ use Rattle.frames.specs.Answer.{frameOf, written}
 use Rattle.record.proofs.Round.{Sized, decode-holder, sized-decode, encode-holder, valid-encode}
 use Rattle.frames.specs.declared.Parsed.the-variants.{Known}
 use Rattle.frames.specs.Parse.{parsed}
-use Rattle.cube.specs.Called.{delivered}
+use Rattle.cube.specs.Called.{setupRecord, delivered}
 use Rattle.cube.specs.Run.{Exchanges, begin, _next_, fed, returns, replies, heard, recordAfter, number, reply, historyAt}
 use Rattle.cube.specs.Demand3.{Demand3}
 use Rattle.steps.proofs.Ways.{state-valid}
@@ -103,35 +103,35 @@ module _ (b : List ℕ) (whole : length b ≡ recordSize) where
 
   -- the record before the first request is the delivered program's
   module _ (q : Requests) where
-    at-one : recordAfter (asking q) 0 b one ≡ recordAfter delivered 0 b one
+    at-one : recordAfter (asking q) (setupRecord b 0) one ≡ recordAfter delivered (setupRecord b 0) one
     at-one = same-call (requesting q) _ (good 0) (Good (record { 0 = 0 })) parsed-0 refl
 
-    at-first : recordAfter (asking q) 1 b (begin next good 0) ≡ recordAfter delivered 1 b (begin next good 0)
+    at-first : recordAfter (asking q) (setupRecord b 1) (begin next good 0) ≡ recordAfter delivered (setupRecord b 1) (begin next good 0)
     at-first = same-call (requesting q) _ (good 0) (Good (record { 0 = 0 })) parsed-0 refl
 
-    at-two : recordAfter (asking q) 1 b two ≡ recordAfter delivered 1 b two
+    at-two : recordAfter (asking q) (setupRecord b 1) two ≡ recordAfter delivered (setupRecord b 1) two
     at-two =
         same-call (requesting q) _ (good 1) (Good (record { 0 = 1 })) parsed-1 refl
         ∙ ap (λ (r : List ℕ). delivered .call-record r (good 1 .frame) (good 1 .buffer)) at-first
 
-    valid-one : validRecord (recordAfter (asking q) 0 b one) ≡ true
-    valid-one = rw at-one (one-node .recorded one .valid)
+    valid-one : validRecord (recordAfter (asking q) (setupRecord b 0) one) ≡ true
+    valid-one = rw at-one (one-node .list .recorded one .valid)
 
     -- and after it, where it is told the same number and leaves the same state
-    module _ (s : State) (e : decode (recordAfter (asking q) 1 b two) ≡ s) (a : numberOf (q s 1 0 0 .reply) ≡ numberOf (requestStep s 1 0 0 .reply))
+    module _ (s : State) (e : decode (recordAfter (asking q) (setupRecord b 1) two) ≡ s) (a : numberOf (q s 1 0 0 .reply) ≡ numberOf (requestStep s 1 0 0 .reply))
         (left : q s 1 0 0 .state ≡ requestStep s 1 0 0 .state) where
-      at-later : recordAfter (asking q) 1 b (two next asks 1) ≡ recordAfter delivered 1 b (two next asks 1)
+      at-later : recordAfter (asking q) (setupRecord b 1) (two next asks 1) ≡ recordAfter delivered (setupRecord b 1) (two next asks 1)
       at-later =
-          same-record (requesting q) _ (asks 1) (Request 1 0 0) parsed-job-1 (rw at-two (two-nodes .recorded two .valid)) refl (rw e a) (rw e left)
+          same-record (requesting q) _ (asks 1) (Request 1 0 0) parsed-job-1 (rw at-two (two-nodes .list .recorded two .valid)) refl (rw e a) (rw e left)
           ∙ ap (λ (r : List ℕ). delivered .call-record r (asks 1 .frame) (asks 1 .buffer)) at-two
 
-      valid-later : validRecord (recordAfter (asking q) 1 b (two next asks 1)) ≡ true
-      valid-later = rw at-later (two-nodes .recorded (two next asks 1) .valid)
+      valid-later : validRecord (recordAfter (asking q) (setupRecord b 1) (two next asks 1)) ≡ true
+      valid-later = rw at-later (two-nodes .list .recorded (two next asks 1) .valid)
 
   -- ---- a free member exists
 
   none-met : NoneMet (causes 0) (historyAt 0 one) (fed (asks 1))
-  none-met = one-node .calls one (asks 1) .accepted-by-none .0 (one-node .calls one (asks 1) .returned ∙ ap returns (told .one-granted))
+  none-met = one-node .list .calls one (asks 1) .accepted-by-none .0 (one-node .list .calls one (asks 1) .returned ∙ ap returns (told .one-granted))
 
   says-14 : (q : Requests) → ((s : State) → numberOf (q s 1 0 0 .reply) ≡ 14) → ¬ NoneFreeRight (asking q) 0 b
   says-14 q e claim =
@@ -144,24 +144,24 @@ module _ (b : List ℕ) (whole : length b ≡ recordSize) where
   tried-wrong : ¬ RefusalRight (asking unstarted) 0 b
   unfolding word words frameOf over strategy dimension
   tried-wrong claim =
-      let judged = one-node .calls begin (asks 1) in
+      let judged = one-node .list .calls begin (asks 1) in
       let refuses = judged .refused-by-first 14 (λ z. absurd (omega arith)) .0 (judged .returned ∙ ap returns (told .silent)) in
-      let said = reply-is (requesting unstarted) _ (asks 1) (Request 1 0 0) parsed-job-1 (one-node .recorded begin .valid) refl in
+      let said = reply-is (requesting unstarted) _ (asks 1) (Request 1 0 0) parsed-job-1 (one-node .list .recorded begin .valid) refl in
       let same : _≡_ {A = ℕ} 0 1 = ap (λ (p : List ℕ). word p 6) (sym said ∙ claim begin (asks 1) 14 refuses) in
       absurd (omega arith)
 
   -- ---- disjoint
 
-  told-lowest : (es : Exchanges) → validRecord (recordAfter (asking lowest) 0 b es) ≡ true → (j : ℕ) → parsed (asks j .frame) ≡ Known (Request j 0 0)
-      → heard (number (asking lowest) 0 b es (asks j)) (reply (asking lowest) 0 b es (asks j)) ≡ granted j 0 0 1
+  told-lowest : (es : Exchanges) → validRecord (recordAfter (asking lowest) (setupRecord b 0) es) ≡ true → (j : ℕ) → parsed (asks j .frame) ≡ Known (Request j 0 0)
+      → heard (number (asking lowest) (setupRecord b 0) es (asks j)) (reply (asking lowest) (setupRecord b 0) es (asks j)) ≡ granted j 0 0 1
   unfolding frameOf
   told-lowest es v j e =
       ap₂ heard (number-is (requesting lowest) _ (asks j) (Request j 0 0) e v refl) (reply-is (requesting lowest) _ (asks j) (Request j 0 0) e v refl)
       ∙ heard-back (granted j 0 0 1) (asks j .buffer) tt
 
-  valid-next : validRecord (recordAfter (asking lowest) 0 b (one next asks 1)) ≡ true
+  valid-next : validRecord (recordAfter (asking lowest) (setupRecord b 0) (one next asks 1)) ≡ true
   valid-next =
-      let r = recordAfter (asking lowest) 0 b one in
+      let r = recordAfter (asking lowest) (setupRecord b 0) one in
       rw (record-is (requesting lowest) r (asks 1) (Request 1 0 0) parsed-job-1 (valid-one lowest) refl refl)
       (stays-valid (decode r) (sized-decode r) (state-valid r (valid-one lowest)) 1)
 
@@ -181,16 +181,16 @@ module _ (b : List ℕ) (whole : length b ≡ recordSize) where
 
   record-wrong : ¬ HoldersRight (asking unrecorded) 0 b
   record-wrong claim =
-      let r = recordAfter (asking unrecorded) 0 b one in
+      let r = recordAfter (asking unrecorded) (setupRecord b 0) one in
       let v = valid-one unrecorded in
       let accepted : numberOf (requestStep (decode r) 1 0 0 .reply) ≡ 0 =
       sym (delivered-number (requesting unrecorded) r (asks 1) (Request 1 0 0) parsed-job-1 v refl)
       ∙ ap (λ (r : List ℕ). delivered .call-number r (asks 1 .frame) (asks 1 .buffer)) (at-one unrecorded)
-      ∙ one-node .calls one (asks 1) .returned ∙ ap returns (told .one-granted) in
-      let left : word (recordAfter (asking unrecorded) 0 b (one next asks 1)) 16 ≡ 0 =
+      ∙ one-node .list .calls one (asks 1) .returned ∙ ap returns (told .one-granted) in
+      let left : word (recordAfter (asking unrecorded) (setupRecord b 0) (one next asks 1)) 16 ≡ 0 =
       ap (λ (r : List ℕ). word r 16) (record-is (requesting unrecorded) r (asks 1) (Request 1 0 0) parsed-job-1 v refl accepted)
       ∙ kept r 0 (omega arith) ∙ ap (λ (r : List ℕ). word r 16) (at-one unrecorded)
-      ∙ one-node .recorded one .holders 0 (omega arith) ∙ told .one-free in
+      ∙ one-node .list .recorded one .holders 0 (omega arith) ∙ told .one-free in
       let same : _≡_ {A = ℕ} 0 1 = sym left ∙ claim (one next asks 1) 0 (omega arith) ∙ told .one-held in
       absurd (omega arith)
 
@@ -201,25 +201,25 @@ module _ (b : List ℕ) (whole : length b ≡ recordSize) where
       let later = two next asks 1 in
       let g = asks 2 .frame in
       let p = asks 2 .buffer in
-      let before = two-nodes .recorded two in
-      let after = two-nodes .recorded later in
-      let none : anyHeld (decode (recordAfter (asking firstJob) 1 b two)) ≡ false =
+      let before = two-nodes .list .recorded two in
+      let after = two-nodes .list .recorded later in
+      let none : anyHeld (decode (recordAfter (asking firstJob) (setupRecord b 1) two)) ≡ false =
       rw (at-two firstJob)
-      (none-held (decode (recordAfter delivered 1 b two)) (λ x h.
-      let l : x < 2 = rw (dimension-of (recordAfter delivered 1 b two), before .dimension) at h in
+      (none-held (decode (recordAfter delivered (setupRecord b 1) two)) (λ x h.
+      let l : x < 2 = rw (dimension-of (recordAfter delivered (setupRecord b 1) two), before .dimension) at h in
       decode-holder _ x (omega arith) ∙ before .holders x l ∙ told .none-held x)) in
       let same = at-later firstJob _ refl (rw none refl) (rw none refl) in
       let v = valid-later firstJob _ refl (rw none refl) (rw none refl) in
-      let r = recordAfter (asking firstJob) 1 b later in
+      let r = recordAfter (asking firstJob) (setupRecord b 1) later in
       let some : anyHeld (decode r) ≡ true =
       rw same
-      (some-held (decode (recordAfter delivered 1 b later)) 0 (pow-pos _)
+      (some-held (decode (recordAfter delivered (setupRecord b 1) later)) 0 (pow-pos _)
       (decode-holder _ 0 (omega arith) ∙ after .holders 0 (omega arith) ∙ told .first-held .0)) in
       let accepted : numberOf (firstJob (decode r) 2 0 0 .reply) ≡ 0 =
       (rw some refl) ∙ sym (delivered-number (requesting firstJob) r (asks 2) (Request 2 0 0) parsed-job-2 v refl)
       ∙ ap (λ (r : List ℕ). delivered .call-number r g p) same
-      ∙ two-nodes .calls later (asks 2) .returned ∙ ap returns (told .second-granted) in
-      let left : word (recordAfter (asking firstJob) 1 b (later next asks 2)) 18 ≡ 0 =
+      ∙ two-nodes .list .calls later (asks 2) .returned ∙ ap returns (told .second-granted) in
+      let left : word (recordAfter (asking firstJob) (setupRecord b 1) (later next asks 2)) 18 ≡ 0 =
       ap (λ (r : List ℕ). word r 18) (record-is (requesting firstJob) r (asks 2) (Request 2 0 0) parsed-job-2 v refl accepted)
       ∙ (rw some (kept r 1 (omega arith)))
       ∙ ap (λ (r : List ℕ). word r 18) same ∙ after .holders 1 (omega arith) ∙ told .first-held .1 in
@@ -233,15 +233,15 @@ module _ (b : List ℕ) (whole : length b ≡ recordSize) where
       let later = two next asks 1 in
       let g = asks 2 .frame in
       let p = asks 2 .buffer in
-      let number = same-number (requestStep (decode (recordAfter (asking anyTried) 1 b two)) 1 0 0 .reply) in
+      let number = same-number (requestStep (decode (recordAfter (asking anyTried) (setupRecord b 1) two)) 1 0 0 .reply) in
       let same = at-later anyTried _ refl number refl in
       let v = valid-later anyTried _ refl number refl in
-      let r = recordAfter (asking anyTried) 1 b later in
+      let r = recordAfter (asking anyTried) (setupRecord b 1) later in
       let right = ap (λ v. replies v p) (told .second-granted) in
       tried-two (requestStep (decode r) 2 0 0 .reply) p
       (sym (delivered-reply (requesting anyTried) r (asks 2) (Request 2 0 0) parsed-job-2 v refl)
       ∙ ap (λ (r : List ℕ). delivered .call-reply r g p) same
-      ∙ two-nodes .calls later (asks 2) .replied ∙ right)
+      ∙ two-nodes .list .calls later (asks 2) .replied ∙ right)
       (sym (reply-is (requesting anyTried) r (asks 2) (Request 2 0 0) parsed-job-2 v refl) ∙ claim later (asks 2) ∙ right)
 
   pub refuted : Refuted b

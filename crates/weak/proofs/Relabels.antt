@@ -17,10 +17,10 @@ use Rattle.history.specs.Verdicts.{done, verdict}
 use Rattle.state.specs.declared.Call.the-variants.{Good, Relabel}
 use Rattle.state.specs.States.{withMap}
 use Rattle.state.specs.Acts.{anyHeld}
-use Rattle.record.specs.Layout.{recordSize, words, encode, decode}
+use Rattle.record.specs.Layout.{recordSize, mapAt, words, encode, decode}
 use Rattle.record.proofs.Round.{decode-holder, decode-condition, encode-map, sized-decode}
 use Rattle.frames.specs.Answer.{frameOf}
-use Rattle.cube.specs.Called.{delivered}
+use Rattle.cube.specs.Called.{setupRecord, delivered}
 use Rattle.cube.specs.Run.{Exchanges, begin, _next_, fed, replies, recordAfter, historyAt}
 use Rattle.cube.specs.Demand3.{Demand3}
 use Rattle.cube.proofs.Theorem.{demand3}
@@ -35,10 +35,10 @@ use Rattle.weak.proofs.Made.{same-call, reply-is, record-is}
 module _ (b : List ℕ) (whole : length b ≡ recordSize) where
   -- after calls that leave the delivered program's record, with no node held
   module _ (n : ℕ) (small : n ≤ 10) (mapped sized : Over) (es : Exchanges)
-      (same : recordAfter (by (relabelling mapped sized)) n b es ≡ recordAfter delivered n b es)
+      (same : recordAfter (by (relabelling mapped sized)) (setupRecord b n) es ≡ recordAfter delivered (setupRecord b n) es)
       (unheld : (x : ℕ) → historyAt n es .holder x ≡ 0) where
     abbrev r : List ℕ
-    r = recordAfter delivered n b es
+    r = recordAfter delivered (setupRecord b n) es
 
     kept : Demand3 delivered n b
     kept = demand3 n small b whole
@@ -47,32 +47,32 @@ module _ (b : List ℕ) (whole : length b ≡ recordSize) where
     below x h = lt-of-lt-of-le h (cube-le n small)
 
     dimension : decode r .n ≡ n
-    dimension = dimension-of r ∙ kept .recorded es .dimension
+    dimension = dimension-of r ∙ kept .list .recorded es .dimension
 
     none : anyHeld (decode r) ≡ false
     none =
         none-held (decode r)
-        (λ x h. let l = (rw dimension at h) in decode-holder r x (below x l) ∙ kept .recorded es .holders x l ∙ unheld x)
+        (λ x h. let l = (rw dimension at h) in decode-holder r x (below x l) ∙ kept .list .recorded es .holders x l ∙ unheld x)
 
     -- the conditions of the record are the history's
     condition : (x : ℕ) → x < 2 ^ n → getD (decode r .conditions) x 0 ≡ historyAt n es .condition x
-    condition x h = decode-condition r x (below x h) ∙ kept .recorded es .conditions x h
+    condition x h = decode-condition r x (below x h) ∙ kept .list .recorded es .conditions x h
 
     -- a relabel is told the size of the program's D, which the history's is by the claim
     sizes : (w : ℕ) → verdict n (historyAt n es) (fed relabels) ≡ done w → ReplyRight (by (relabelling mapped sized)) n b
         → replies (done (size (differing n (sized (decode r .conditions))))) (relabels .buffer) ≡ replies (done w) (relabels .buffer)
     unfolding frameOf
     sizes w says claim =
-        let answer = reply-is (relabelling mapped sized) r relabels Relabel parsed-relabel (kept .recorded es .valid) refl in
+        let answer = reply-is (relabelling mapped sized) r relabels Relabel parsed-relabel (kept .list .recorded es .valid) refl in
         sym (rw (none, dimension) at answer) ∙ (rw same at (claim es relabels)) ∙ ap (λ v. replies v (relabels .buffer)) says
 
     -- and the record's map is by the program's other D
     moved : (i : ℕ) → i < 10
-        → getD (recordAfter (by (relabelling mapped sized)) n b (es next relabels)) (5 + i) 0
+        → getD (recordAfter (by (relabelling mapped sized)) (setupRecord b n) (es next relabels)) (mapAt + i) 0
         ≡ getD (relabelled n (mapped (decode r .conditions))) i 0
     moved i h =
         let z = sized-decode r in
-        let stored = record-is (relabelling mapped sized) r relabels Relabel parsed-relabel (kept .recorded es .valid) refl (rw none refl) in
+        let stored = record-is (relabelling mapped sized) r relabels Relabel parsed-relabel (kept .list .recorded es .valid) refl (rw none refl) in
         let map = relabelled (decode r .n) (mapped (decode r .conditions)) in
         let long = relabel-permutes n small (mapped (decode r .conditions)) .entries in
         rw same (rw (stored, none)
@@ -119,5 +119,5 @@ module _ (b : List ℕ) (whole : length b ≡ recordSize) where
   relabels-refuted = record {
     over-faulty = breaks ReplyRight replied (by (relabelling faultyOnly faultyOnly)) 1 b faulty-wrong;
     over-not-faulty = breaks ReplyRight replied (by (relabelling notFaulty notFaulty)) 1 b not-faulty-wrong;
-    map-over-faulty = breaks MapRight (λ P n b d es. d .recorded es .directions) (by (relabelling faultyOnly notGood)) 2 b map-wrong;
+    map-over-faulty = breaks MapRight (λ P n b d es. d .list .recorded es .directions) (by (relabelling faultyOnly notGood)) 2 b map-wrong;
   }

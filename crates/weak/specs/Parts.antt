@@ -2,7 +2,7 @@
 -- that the six break them.
 use Prim.Native.Nat.{ℕ, _+_, _*_, _^_, _<_}
 use mathlib.Core.Path.{_≡_}
-use mathlib.Core.List.{List}
+use mathlib.Core.List.{List, []}
 use Rattle.history.specs.Calls.{request, kind, word}
 use Rattle.history.specs.Causes.{First, NoneMet, NoMemberFree, earlier, causes}
 use Rattle.history.specs.Verdicts.{refused, tried, verdict}
@@ -14,29 +14,33 @@ use Rattle.cube.specs.Run.{Exchange, Exchanges, fed, replies, recordAfter, numb
 use Rattle.weak.specs.Programs.{asking, answers14, unstarted, lowest, unrecorded, firstJob, anyTried}
 
 module _ (P : Program) (n : ℕ) (b : List ℕ) where
+  -- the record that the list begins at
+  abbrev r₀ : List ℕ
+  r₀ = P .setup-record b n
+
   -- 3: 'none free' is said only where no member is free
   abbrev pub NoneFreeRight : Type 0
   NoneFreeRight =
-      (es : Exchanges) (e : Exchange) → kind (fed e) ≡ request → NoneMet (earlier n) (historyAt n es) (fed e) → number P n b es e ≡ 14
+      (es : Exchanges) (e : Exchange) → kind (fed e) ≡ request → NoneMet (earlier n) (historyAt n es) (fed e) → number P r₀ es e ≡ 14
       → NoMemberFree n (historyAt n es) (fed e)
 
   -- 2 for tried: a refusal's reply has its number and what was tried
   abbrev pub RefusalRight : Type 0
   RefusalRight =
       (es : Exchanges) (e : Exchange) (q : ℕ) → First (causes n) (historyAt n es) (fed e) q
-      → reply P n b es e ≡ replies (refused q (tried n (fed e) q)) (e .buffer)
+      → reply P r₀ es e ≡ replies (refused q (tried n (fed e) q)) (e .buffer)
 
   -- 3: disjoint
   abbrev pub HeldDisjoint : Type 0
-  HeldDisjoint = (es : Exchanges) → Disjoint (heldAt P n b es)
+  HeldDisjoint = (es : Exchanges) → Disjoint (heldAt P r₀ [] es)
 
   -- 2: record after the call; 3: over the list
   abbrev pub HoldersRight : Type 0
-  HoldersRight = (es : Exchanges) (x : ℕ) → x < 2 ^ n → word (recordAfter P n b es) (holdersAt + 2 * x) ≡ historyAt n es .holder x
+  HoldersRight = (es : Exchanges) (x : ℕ) → x < 2 ^ n → word (recordAfter P r₀ es) (holdersAt + 2 * x) ≡ historyAt n es .holder x
 
   -- 2: place in the order
   abbrev pub ReplyRight : Type 0
-  ReplyRight = (es : Exchanges) (e : Exchange) → reply P n b es e ≡ replies (verdict n (historyAt n es) (fed e)) (e .buffer)
+  ReplyRight = (es : Exchanges) (e : Exchange) → reply P r₀ es e ≡ replies (verdict n (historyAt n es) (fed e)) (e .buffer)
 
 -- a program that meets demand 3 has the part, whichever it is; P is without it, and so does not meet demand 3
 pub record Breaks (Part : Program → ℕ → List ℕ → Type 0) (P : Program) (n : ℕ) (b : List ℕ) : Type 0 where

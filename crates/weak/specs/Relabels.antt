@@ -13,6 +13,7 @@ use Rattle.state.specs.declared.Reply.the-variants.{Done}
 use Rattle.state.specs.declared.Step.{Step}
 use Rattle.state.specs.States.{withMap}
 use Rattle.state.specs.Acts.{step, refuse, anyHeld, acted}
+use Rattle.record.specs.Layout.{mapAt}
 use Rattle.cube.specs.Called.{Program}
 use Rattle.cube.specs.Run.{Exchanges, recordAfter, historyAt}
 use Rattle.weak.specs.Programs.{Acts, by}
@@ -47,7 +48,7 @@ notFaulty cs x = not (eqb (getD cs x 0) 2)
 
 -- 2 and 3: the record's map is the history's
 abbrev pub MapRight : Program → ℕ → List ℕ → Type 0
-MapRight P n b = (es : Exchanges) (i : ℕ) → i < n → getD (recordAfter P n b es) (5 + i) 0 ≡ getD (historyAt n es .directions) i 0
+MapRight P n b = (es : Exchanges) (i : ℕ) → i < n → getD (recordAfter P (P .setup-record b n) es) (mapAt + i) 0 ≡ getD (historyAt n es .directions) i 0
 
 -- on any buffer of the record's size, b: the size of D is told wrong; it is told right and the map is wrong
 pub record RelabelsRefuted (b : List ℕ) : Type 0 where
