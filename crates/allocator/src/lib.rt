@@ -1,4 +1,4 @@
-// The six calls on a state by value.
+// The calls on a state by value.
 use hypercube::Node;
 use state::Call;
 use state::State;
@@ -24,7 +24,7 @@ pub fn call_on(s: State, c: Call) -> Step
     Step { state, reply }
 }
 
-// The six calls on values, on any state.
+// The calls on values, on any state.
 pub fn good(s: State, x: Node) -> Step
     ensures { λ r. ⌜ r ≡ called s (Call.Good x) ⌝ }
 {
@@ -59,4 +59,10 @@ pub fn release(s: State, job: u16) -> Step
     ensures { λ r. ⌜ r ≡ called s (Call.Release job) ⌝ }
 {
     call_on(s, Call::Release(job))
+}
+
+pub fn grow(s: State, job: u16, k: u8, strategy: u8) -> Step
+    ensures { λ r. ⌜ r ≡ called s (Call.Grow job k strategy) ⌝ }
+{
+    call_on(s, Call::Grow { job, k, strategy })
 }

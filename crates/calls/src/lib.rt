@@ -34,5 +34,6 @@ pub fn call_record(rec: &mut [u8], c: Call) -> Reply
         Call::Relabel => relabel_on(rec),
         Call::Request { job, k, strategy } => grants::request_on(rec, job, k, strategy),
         Call::Release(job) => grants::release_on(rec, job),
+        Call::Grow { job, k, strategy } => grants::grow_on(rec, job, k, strategy),
     }
 }

@@ -4,10 +4,10 @@ use mathlib.Core.Bool.{not, _||_}
 use lib.Dec.{eqb, ltb}
 use lib.ListN.{length}
 use Rattle.hypercube.proofs.Tests.{cases}
-use Rattle.history.specs.Calls.{Call, Kind, good, fault, repaired, relabel, request, release, other, word, kindOf, lengthField, kind, nodeField, job, dimension, strategy, size}
+use Rattle.history.specs.Calls.{Call, Kind, good, fault, repaired, relabel, request, release, grow, other, word, kindOf, lengthField, kind, nodeField, job, dimension, strategy, size}
 use Rattle.state.specs.declared.State.{State}
 use Rattle.state.specs.declared.Call as alloc
-use Rattle.state.specs.declared.Call.the-variants.{Good, Fault, Repaired, Relabel, Request, Release}
+use Rattle.state.specs.declared.Call.the-variants.{Good, Fault, Repaired, Relabel, Request, Release, Grow}
 use Rattle.state.specs.Acts.{acted}
 use Rattle.state.proofs.Valid.{Valid}
 use Rattle.record.proofs.Round.{Sized}
@@ -15,7 +15,7 @@ use Rattle.frames.specs.Parse.{sized, byKind, parsed}
 use Rattle.cube.specs.Called.{stepOf}
 use Rattle.cube.proofs.Tested.{is, rung, tests, frameTests}
 use Rattle.cube.proofs.View.{view}
-use Rattle.cube.proofs.Acts.{Does, refuses, does-good, does-fault, does-repaired, does-relabel, does-request, does-release}
+use Rattle.cube.proofs.Acts.{Does, refuses, does-good, does-fault, does-repaired, does-relabel, does-request, does-release, does-grow}
 
 module _ (s : State) (z : Sized s) (w : Valid s) (c : Call) where
   -- rows 5 and on, for a call that was read
@@ -34,6 +34,7 @@ module _ (s : State) (z : Sized s) (w : Valid s) (c : Call) where
   of-kind relabel e = of-size relabel Relabel (does-relabel s z w c e)
   of-kind request e = of-size request (Request (job c) (dimension c) (strategy c)) (does-request s z w c e)
   of-kind release e = of-size release (Release (job c)) (does-release s z w c e)
+  of-kind grow e = of-size grow (Grow (job c) (dimension c) (strategy c)) (does-grow s z w c e)
   of-kind other e = refuses s z w c 4 refl
 
   pub does : Does s c (stepOf s (parsed (c .frame))) (frameTests (s .n) (view s) c (kind c))

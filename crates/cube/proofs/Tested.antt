@@ -7,15 +7,15 @@ use mathlib.Core.Option.{Option, none, some}
 use Prim.Native.Nat.{ℕ, _^_, _≤_}
 use borrow.Author.Tests.{ltb-false, le-ltb, not-true}
 use lib.ListN.{length}
-use lib.Dec.{eqb, ltb}
-use Rattle.hypercube.specs.Lists.{Some}
+use lib.Dec.{eqb, ltb, leb}
+use Rattle.hypercube.specs.Lists.{In, Some}
 use Rattle.hypercube.specs.declared.Walk.{Walk}
 use Rattle.hypercube.specs.declared.Walk.the-variants.{Found, NoneFree}
-use Rattle.hypercube.proofs.Tests.{Means, means-iff, means-eq, means-lt, means-not, means-and, means-or}
+use Rattle.hypercube.proofs.Tests.{Means, means-iff, means-eq, means-lt, means-le, means-not, means-and, means-or}
 use Rattle.hypercube.proofs.Search.{first-in}
-use Rattle.history.specs.Calls.{Call, Kind, good, fault, repaired, relabel, request, release, other, Kind-discrete, lengthField, kind, nodeField, job, dimension, strategy, size}
+use Rattle.history.specs.Calls.{Call, Kind, good, fault, repaired, relabel, request, release, grow, other, Kind-discrete, lengthField, kind, nodeField, job, dimension, strategy, size, Ask, ask, reporting, naming, asking, holding}
 use Rattle.history.specs.Account.{History}
-use Rattle.history.specs.Causes.{Row, Decided, causes, NoMemberFree}
+use Rattle.history.specs.Causes.{Row, Decided, causes, nodesOf, NoMemberFree}
 use Rattle.history.specs.Verdicts.{firstMet, decided, cause, chosen}
 use Rattle.history.proofs.Chosen.{chosen-first, chosen-none}
 use Rattle.state.specs.Valid.{anyBelow}
@@ -34,6 +34,15 @@ means-dec (no h) = record { holds = λ e. absurd (false≢true e); shows = λ p.
 means-is : (k j : Kind) → Means (is k j) (k ≡ j)
 means-is k j = means-dec (Kind-discrete k j)
 
+-- the kind k is one of ks
+abbrev pub one-of : Kind → List Kind → Bool
+one-of k [] = false
+one-of k (j ∷ js) = is k j || one-of k js
+
+means-one-of : (k : Kind) (ks : List Kind) → Means (one-of k ks) (In k ks)
+means-one-of k [] = record { holds = λ e. false≢true e; shows = λ i. absurd i }
+means-one-of k (j ∷ js) = means-or (means-is k j) (means-one-of k js)
+
 means-from : (a b : ℕ) → Means (not (ltb a b)) (b ≤ a)
 means-from a b = record { holds = λ e. ltb-false a b (not-true (ltb a b) e); shows = λ l. rw (le-ltb a b l) }
 
@@ -46,14 +55,14 @@ abbrev pub noneIn : Walk → Bool
 noneIn (Found m t) = false
 noneIn (NoneFree t) = true
 
-means-none : (n : ℕ) (h : History) (c : Call) → Means (noneIn (chosen n h c)) (NoMemberFree n h c)
-means-none n h c = go (chosen n h c) refl
+means-none : (n : ℕ) (h : History) (a : Ask) → Means (noneIn (chosen n h a)) (NoMemberFree n h a)
+means-none n h a = go (chosen n h a) refl
   where
-    go : (w : Walk) → chosen n h c ≡ w → Means (noneIn w) (NoMemberFree n h c)
+    go : (w : Walk) → chosen n h a ≡ w → Means (noneIn w) (NoMemberFree n h a)
     go (Found m t) e =
-        let f = chosen-first n h c m t e in
+        let f = chosen-first n h a m t e in
         record { holds = λ z. absurd (false≢true z); shows = λ r. absurd (r m (first-in f) (f .has)) }
-    go (NoneFree t) e = record { holds = λ z. chosen-none n h c t e; shows = λ r. refl }
+    go (NoneFree t) e = record { holds = λ z. chosen-none n h a t e; shows = λ r. refl }
 
 -- ---- the table
 
@@ -69,15 +78,16 @@ module _ (n : ℕ) (h : History) (c : Call) where
   -- the rows from 6 on, for a call of kind k
   abbrev pub tests : Kind → Option ℕ
   tests k =
-      rung ((is k request || is k release) && eqb (job c) 0) 6
-      (rung (is k request && ltb n (dimension c)) 7
-      (rung ((is k good || (is k fault || is k repaired)) && not (ltb (nodeField c) (2 ^ n))) 8
-      (rung (is k request && ltb 3 (strategy c)) 9
+      rung (one-of k naming && eqb (job c) 0) 6
+      (rung (one-of k asking && ltb n (dimension c)) 7
+      (rung (one-of k reporting && not (ltb (nodeField c) (2 ^ n))) 8
+      (rung (one-of k asking && ltb 3 (strategy c)) 9
       (rung (is k request && jobHolds) 10
-      (rung (is k release && not jobHolds) 11
+      (rung (one-of k holding && not jobHolds) 11
+      (rung (is k grow && leb (2 ^ dimension c) (nodesOf n h (job c))) 17
       (rung ((is k good && eqb (h .condition (nodeField c)) 2) || (is k repaired && not (eqb (h .condition (nodeField c)) 2))) 12
       (rung (is k relabel && anyBelow (λ x. not (eqb (h .holder x) 0)) (2 ^ n)) 13
-      (rung (is k request && noneIn (chosen n h c)) 14 none))))))))
+      (rung (one-of k asking && noneIn (chosen n h (ask c))) 14 none)))))))))
 
   -- the rows from 3 on
   abbrev pub frameTests : Kind → Option ℕ
@@ -110,8 +120,6 @@ module _ (n : ℕ) (h : History) (c : Call) where
   ladder : Ladder (causes n) (rung (ltb (c .room) 12) 2 (frameTests (kind c)))
   unfolding causes
   ladder =
-      let requests = means-is (kind c) request in
-      let releases = means-is (kind c) release in
       let goods = means-is (kind c) good in
       let repairs = means-is (kind c) repaired in
       let holds = means-some (λ x. eqb (h .holder x) (job c)) (λ x. h .holder x ≡ job c) (2 ^ n) (λ x. means-eq (h .holder x) (job c)) in
@@ -120,15 +128,16 @@ module _ (n : ℕ) (h : History) (c : Call) where
       above means-or (means-lt (length (c .frame)) 4) (means-not (means-eq (lengthField c) (length (c .frame))))
       above means-is (kind c) other
       above means-not (means-eq (length (c .frame)) (size (kind c)))
-      above means-and (means-or requests releases) (means-eq (job c) 0)
-      above means-and requests (means-lt n (dimension c))
-      above means-and (means-or goods (means-or (means-is (kind c) fault) repairs)) (means-from (nodeField c) (2 ^ n))
-      above means-and requests (means-lt 3 (strategy c))
-      above means-and requests holds
-      above means-and releases (means-not holds)
+      above means-and (means-one-of (kind c) naming) (means-eq (job c) 0)
+      above means-and (means-one-of (kind c) asking) (means-lt n (dimension c))
+      above means-and (means-one-of (kind c) reporting) (means-from (nodeField c) (2 ^ n))
+      above means-and (means-one-of (kind c) asking) (means-lt 3 (strategy c))
+      above means-and (means-is (kind c) request) holds
+      above means-and (means-one-of (kind c) holding) (means-not holds)
+      above means-and (means-is (kind c) grow) (means-le (2 ^ dimension c) (nodesOf n h (job c)))
       above means-or (means-and goods fails) (means-and repairs (means-not fails))
       above means-and (means-is (kind c) relabel) (means-some (λ x. not (eqb (h .holder x) 0)) (λ x. h .holder x ≢ 0) (2 ^ n) (λ x. means-not (means-eq (h .holder x) 0)))
-      above means-and requests (means-none n h c)
+      above means-and (means-one-of (kind c) asking) (means-none n h (ask c))
       above ends
 
   pub cause-tested : cause n h c ≡ rung (ltb (c .room) 12) 2 (frameTests (kind c))

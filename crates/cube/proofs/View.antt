@@ -11,14 +11,15 @@ use lib.ListN.{length, getD, set, List·getD-eq-default, List·getD-map}
 use lib.Seq.{getD-set-same, getD-set-other}
 use Rattle.hypercube.specs.Lists.{In, among, from}
 use Rattle.hypercube.specs.Labels.{node}
-use Rattle.hypercube.specs.Families.{choice}
 use Rattle.hypercube.proofs.Bits.{lt-or}
 use Rattle.hypercube.proofs.Lists.{length-of, getD-each}
 use Rattle.hypercube.proofs.Tests.{cases, either-way, refutes, same-test}
 use Rattle.hypercube.proofs.Families.{choice-same}
+use Rattle.history.specs.Calls.{Ask}
+use Rattle.history.specs.Verdicts.{chosen}
 use Rattle.history.specs.Account.{History, put, putAll, wipe, freeLabel}
 use Rattle.history.proofs.Counting.{means-among}
-use Rattle.labels.specs.Flags.{flags}
+use Rattle.labels.specs.Flags.{flag, flags}
 use Rattle.labels.proofs.Flags.{flags-free, flag-test}
 use Rattle.runs.specs.Flagged.{flagged}
 use Rattle.state.specs.declared.State.{State}
@@ -65,12 +66,12 @@ entry-given l xs ys j e same b = fun-ext (λ y. ⊎-elim (inside y) (beyond y) (
 
 -- ---- the walk
 
-flagged-free : (s : State) (l : ℕ) → l < 2 ^ s .n → flagged (flags (s .n) (s .map) (s .conditions) (s .holders)) l ≡ freeLabel (view s) l
-flagged-free s l b =
-    ap (λ (z : ℕ). eqb z 1) (flags-free (s .n) (s .map) (s .conditions) (s .holders) l b)
-    ∙ flag-test (s .conditions) (s .holders) (node (s .map) l)
+flagged-free : (s : State) (a : Ask) (l : ℕ) → l < 2 ^ s .n → flagged (flags (s .n) (s .map) (flag (s .conditions) (s .holders) (a .job))) l ≡ freeLabel (view s) a l
+flagged-free s a l b =
+    ap (λ (z : ℕ). eqb z 1) (flags-free (s .n) (s .map) (flag (s .conditions) (s .holders) (a .job)) l b)
+    ∙ flag-test (s .conditions) (s .holders) (a .job) (node (s .map) l)
 
 -- a request's walk goes by the history's free labels
-pub walk-is : (s : State) (k f : ℕ) → s .n ≤ 10 → k ≤ s .n → walkOf s k f ≡ choice f (s .n) k (freeLabel (view s))
-walk-is s k f small b =
-    choice-same f (s .n) k (flagged (flags (s .n) (s .map) (s .conditions) (s .holders))) (freeLabel (view s)) small b (flagged-free s)
+pub walk-is : (s : State) (a : Ask) → s .n ≤ 10 → a .dimension ≤ s .n → walkOf s (a .job) (a .dimension) (a .strategy) ≡ chosen (s .n) (view s) a
+walk-is s a small b =
+    choice-same (a .strategy) (s .n) (a .dimension) (flagged (flags (s .n) (s .map) (flag (s .conditions) (s .holders) (a .job)))) (freeLabel (view s) a) small b (flagged-free s a)

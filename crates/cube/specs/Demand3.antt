@@ -5,10 +5,10 @@ use mathlib.Core.Logic.{_↔_, _≢_}
 use mathlib.Core.Bool.{true}
 use mathlib.Core.List.{List, []}
 use lib.ListN.{length, getD}
-use Rattle.hypercube.specs.Lists.{FirstWith}
+use Rattle.hypercube.specs.Lists.{In, FirstWith}
 use Rattle.hypercube.specs.Labels.{node}
 use Rattle.hypercube.specs.declared.Subcube.{Subcube}
-use Rattle.history.specs.Calls.{request, kind, job, word}
+use Rattle.history.specs.Calls.{kind, job, ask, asking, word}
 use Rattle.history.specs.Account.{History, fresh, AllFree}
 use Rattle.history.specs.Causes.{First, NoneMet, NoMemberFree, asked, earlier, causes}
 use Rattle.history.specs.Verdicts.{granted, refused, tried, verdict}
@@ -18,11 +18,11 @@ use Rattle.record.specs.Layout.{conditionsAt, holdersAt, recordSize, validRecor
 use Rattle.cube.specs.Called.{Program}
 use Rattle.cube.specs.Run.{Exchange, Exchanges, _next_, fed, feed, returns, replies, recordAfter, number, reply, heldAt, historyFrom}
 
--- a request is replied 'granted' with its job and the lowest node, star bits and place of the first free member of its family
+-- a request or a growth is replied 'granted' with its job and the lowest node, star bits and place of the first free member of its family
 pub record Gets (n : ℕ) (h : History) (e : Exchange) (p′ : List ℕ) : Type 0 where
   pub member : Subcube
   pub place : ℕ
-  pub first : FirstWith (AllFree h) (asked n (fed e)) member place
+  pub first : FirstWith (AllFree h (ask (fed e))) (asked n (ask (fed e))) member place
   pub replied : p′ ≡ replies (granted (job (fed e)) (node (h .directions) (member .low .0)) (node (h .directions) (member .stars)) place) (e .buffer)
 
 -- the call e is answered m and p′, by the history h before it; r and r′ are the record before and after
@@ -36,9 +36,10 @@ pub record Judged (n : ℕ) (h : History) (e : Exchange) (m : ℕ) (p′ r r′ 
   pub left : m ≢ 0 → r′ ≡ r
   -- a refusal's reply has its number and what was tried
   pub refusal : (q : ℕ) → First (causes n) h (fed e) q → p′ ≡ replies (refused q (tried n (fed e) q)) (e .buffer)
-  -- a request that meets no earlier cause: 'none free' exactly when no member of its family is all good and unheld, otherwise the first such
-  pub none-free : kind (fed e) ≡ request → NoneMet (earlier n) h (fed e) → (m ≡ 14) ↔ NoMemberFree n h (fed e)
-  pub gets-first : kind (fed e) ≡ request → NoneMet (earlier n) h (fed e) → ¬ NoMemberFree n h (fed e) → Gets n h e p′
+  -- a request or a growth that meets no earlier cause: 'none free' exactly when no member of its family is all good and unheld by others,
+  -- otherwise the first such
+  pub none-free : In (kind (fed e)) asking → NoneMet (earlier n) h (fed e) → (m ≡ 14) ↔ NoMemberFree n h (ask (fed e))
+  pub gets-first : In (kind (fed e)) asking → NoneMet (earlier n) h (fed e) → ¬ NoMemberFree n h (ask (fed e)) → Gets n h e p′
 
 -- the record's bytes r are the history's: "its holders and conditions are compared below 2^n and its map up to n, and entries of these beyond that
 -- stay as set-up left them", in r₀

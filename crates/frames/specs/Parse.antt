@@ -4,10 +4,10 @@ use mathlib.Core.Bool.{not, cond, _||_}
 use mathlib.Core.List.{List}
 use lib.Dec.{eqb, ltb}
 use lib.ListN.{length, getD}
-use Rattle.history.specs.Calls.{Kind, good, fault, repaired, relabel, request, release, other, word, kindOf, size}
+use Rattle.history.specs.Calls.{Kind, good, fault, repaired, relabel, request, release, grow, other, word, kindOf, size}
 use Rattle.state.specs.declared.State.{State}
 use Rattle.state.specs.declared.Call.{Call}
-use Rattle.state.specs.declared.Call.the-variants.{Good, Fault, Repaired, Relabel, Request, Release}
+use Rattle.state.specs.declared.Call.the-variants.{Good, Fault, Repaired, Relabel, Request, Release, Grow}
 use Rattle.state.specs.declared.Step.{Step}
 use Rattle.state.specs.Acts.{refuse, acted}
 use Rattle.frames.specs.declared.Parsed.{Parsed}
@@ -24,6 +24,7 @@ byKind f repaired = sized f repaired (Repaired (record { 0 = word f 4 }))
 byKind f relabel = sized f relabel Relabel
 byKind f request = sized f request (Request (word f 4) (getD f 6 0) (getD f 7 0))
 byKind f release = sized f release (Release (word f 4))
+byKind f grow = sized f grow (Grow (word f 4) (getD f 6 0) (getD f 7 0))
 byKind f other = Bad 4
 
 unfoldable pub parsed : List ℕ → Parsed

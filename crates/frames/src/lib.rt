@@ -32,6 +32,8 @@ const REQUEST: u16 = 0x0201;
 
 const RELEASE: u16 = 0x0202;
 
+const GROW: u16 = 0x0204;
+
 // The length of a kind, and 0 for a number that is none of the six.
 fn size_of(kind: u16) -> usize
     ensures { λ r. ⌜ r ≡ size (kindOf kind) ⌝ }
@@ -43,6 +45,7 @@ fn size_of(kind: u16) -> usize
         RELABEL => 4,
         REQUEST => 8,
         RELEASE => 6,
+        GROW => 8,
         _ => 0,
     }
 }
@@ -61,6 +64,11 @@ fn call_of(frame: &[u8], kind: u16) -> Call
         FAULT => Call::Fault(Node(field)),
         REPAIRED => Call::Repaired(Node(field)),
         REQUEST => Call::Request {
+            job: field,
+            k: frame[6],
+            strategy: frame[7],
+        },
+        GROW => Call::Grow {
             job: field,
             k: frame[6],
             strategy: frame[7],

@@ -1,4 +1,4 @@
--- A request's walk over the flags of a state, and the member that it finds: its nodes are a subcube's, with no star in the lowest. Assumes nothing.
+-- The walk of a request or a growth over the flags of a state, and the member that it finds: its nodes are a subcube's, with no star in the lowest. Assumes nothing.
 use Prim.Native.Nat.{ℕ, _^_, _<_, _≤_}
 use mathlib.Core.Path.{_≡_, ap, _∙_}
 use mathlib.Core.List.{List}
@@ -14,7 +14,7 @@ use Rattle.hypercube.proofs.Families.{family-subcubes}
 use Rattle.hypercube.proofs.Moved.{moved-subcube}
 use Rattle.hypercube.proofs.Search.{found-first, first-in}
 use Rattle.labels.specs.Directions.{Directions}
-use Rattle.labels.specs.Flags.{EmptyFrom, byNode, byLabel, flags}
+use Rattle.labels.specs.Flags.{EmptyFrom, flag, byNode, byLabel, flags}
 use Rattle.labels.proofs.Directions.{directions}
 use Rattle.labels.proofs.Flags.{empty-by-node, flags-moved}
 use Rattle.runs.specs.Flagged.{flagged}
@@ -25,30 +25,30 @@ use Rattle.nodes.specs.Holders.{LowestOf}
 
 -- ---- n, the map and the flags by node of the state s, as they were read
 
-module _ (s : State) (v : Valid s) {n : ℕ} (en : n ≡ s .n) {ds : List ℕ} (ed : ds ≡ s .map)
-    {N : ℕ} (eN : N ≡ nodeCount s) {fs : List ℕ} (ef : fs ≡ byNode N (s .conditions) (s .holders)) where
-  made : fs ≡ byNode (2 ^ s .n) (s .conditions) (s .holders)
-  made = ef ∙ ap (λ (m : ℕ). byNode m (s .conditions) (s .holders)) eN
+module _ (s : State) (v : Valid s) (j : ℕ) {n : ℕ} (en : n ≡ s .n) {ds : List ℕ} (ed : ds ≡ s .map)
+    {N : ℕ} (eN : N ≡ nodeCount s) {fs : List ℕ} (ef : fs ≡ byNode N (flag (s .conditions) (s .holders) j)) where
+  made : fs ≡ byNode (2 ^ s .n) (flag (s .conditions) (s .holders) j)
+  made = ef ∙ ap (λ (m : ℕ). byNode m (flag (s .conditions) (s .holders) j)) eN
 
   pub walk-asked : ((n ≤ 10) × Directions ds) × EmptyFrom fs (2 ^ n)
   walk-asked =
       rw (en, ed, made)
-      ((v .small, directions (s .n) (s .map) (v .small) (v .permutes)), empty-by-node (s .n) (s .conditions) (s .holders) (v .small))
+      ((v .small, directions (s .n) (s .map) (v .small) (v .permutes)), empty-by-node (s .n) (flag (s .conditions) (s .holders) j) (v .small))
 
-  pub walked : {gs : List ℕ} → gs ≡ byLabel n ds fs → (k f : ℕ) {w : Walk} → w ≡ choice f n k (flagged gs) → w ≡ walkOf s k f
+  pub walked : {gs : List ℕ} → gs ≡ byLabel n ds fs → (k f : ℕ) {w : Walk} → w ≡ choice f n k (flagged gs) → w ≡ walkOf s j k f
   walked e k f q =
       q ∙ rw (e, en, ed, made)
       (ap (λ (l : List ℕ). choice f (s .n) k (flagged l))
-      (flags-moved (s .n) (s .map) (s .conditions) (s .holders) (v .small) (v .permutes)))
+      (flags-moved (s .n) (s .map) (flag (s .conditions) (s .holders) j) (v .small) (v .permutes)))
 
 -- ---- the member found
 
-module _ (s : State) (v : Valid s) (k f : ℕ) (h : k ≤ s .n) (c : Subcube) (t : ℕ) (e : walkOf s k f ≡ Found c t) where
+module _ (s : State) (v : Valid s) (j k f : ℕ) (h : k ≤ s .n) (c : Subcube) (t : ℕ) (e : walkOf s j k f ≡ Found c t) where
   member : IsSubcube (s .n) k (subcube (node (s .map) (c .low .0)) (node (s .map) (c .stars)))
   member =
       moved-subcube (s .n) (s .map) (v .small) (v .permutes) k c
       (family-subcubes f (s .n) k h c
-      (first-in (found-first (isFree (flagged (flags (s .n) (s .map) (s .conditions) (s .holders)))) (family f (s .n) k) c t e)))
+      (first-in (found-first (isFree (flagged (flags (s .n) (s .map) (flag (s .conditions) (s .holders) j)))) (family f (s .n) k) c t e)))
 
   below : (x : ℕ) → x < 2 ^ s .n → x < 1024
   below x l = lt-of-lt-of-le l (pow-mono {i = s .n} {j = 10} (v .small))

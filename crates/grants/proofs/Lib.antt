@@ -1,3 +1,4 @@
--- The laws of requests and releases on a record.
+-- The laws of requests, growths and releases on a record.
 pub mod Read
 pub mod Grants
+pub mod Lost

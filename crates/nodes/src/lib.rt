@@ -12,7 +12,7 @@ ghost use lib.Dec.{eqb};
 ghost use Rattle.hypercube.specs.Bits.{width};
 ghost use Rattle.hypercube.specs.Lists.{anyBelow, countBelow};
 ghost use Rattle.hypercube.specs.Subcubes.{vertices};
-ghost use Rattle.labels.specs.Flags.{EmptyFrom, byNode};
+ghost use Rattle.labels.specs.Flags.{EmptyFrom, flag, byNode};
 ghost use Rattle.labels.specs.Relabelling.{relabelling};
 ghost use Rattle.state.specs.States.{withCondition, withMap, withHolders, given, cleared};
 ghost use Rattle.record.specs.Layout.{recordSize, encode, decode, Encoded, headRight};
@@ -138,7 +138,13 @@ pub fn give(bytes: &mut [u8], low: Node, stars: u16, job: u16)
     let end = (first + stars) as usize + 1;
     let mut y = first as usize;
     while y < end {
-        let h = after_grant(y as u16, first, stars, job, word(bytes, record::HOLDERS + 2 * y));
+        let h = after_grant(
+            y as u16,
+            first,
+            stars,
+            job,
+            word(bytes, record::HOLDERS + 2 * y),
+        );
         set_holder(bytes, y, h);
         y += 1;
     }
@@ -165,16 +171,20 @@ pub fn clear(bytes: &mut [u8], size: usize, job: u16)
     }
 }
 
-// The flags of the nodes below `size`, by node, put into flags that are 0 from there up. Condition and holder are read at every node, so the loop
+// The flags of the nodes below `size` where a job asks, by node, put into flags that are 0 from there up. Condition and holder are read at every node, so the loop
 // compiles to vector code.
-pub fn flags_by_node(bytes: &[u8], size: usize, flags: &mut [u8; 1024])
+pub fn flags_by_node(bytes: &[u8], size: usize, job: u16, flags: &mut [u8; 1024])
     requires { ⌜ (length (now bytes) ≡ recordSize) × (size ≤ 1024) ⌝ }
     requires { ⌜ EmptyFrom (now flags) size ⌝ }
-    ensures { λ _. ⌜ now (flags .exit) ≡ byNode size (decode (now (bytes .entry)) .conditions) (decode (now (bytes .entry)) .holders) ⌝ }
+    ensures { λ _. ⌜ now (flags .exit) ≡ byNode size (flag (decode (now (bytes .entry)) .conditions) (decode (now (bytes .entry)) .holders) job) ⌝ }
 {
     let mut x = 0;
     while x < size {
-        flags[x] = labels::flag_of(bytes[record::CONDITIONS + x], word(bytes, record::HOLDERS + 2 * x));
+        flags[x] = labels::flag_of(
+            bytes[record::CONDITIONS + x],
+            word(bytes, record::HOLDERS + 2 * x),
+            job,
+        );
         x += 1;
     }
 }

@@ -13,14 +13,20 @@ ghost use Rattle.record.specs.Highest.{highestOf, allZero};
 
 // The record's size, and the places of its parts. The conditions stand last.
 pub const SIZE: usize = 3088;
+
 pub const MAP: usize = 5;
+
 pub const HOLDERS: usize = 16;
+
 pub const CONDITIONS: usize = 2064;
+
 pub const CONDITIONS_END: usize = 3088;
 
 // The length field, and its two bytes.
 const LENGTH: u16 = SIZE as u16;
+
 const LENGTH_LOW: u8 = (SIZE % 256) as u8;
+
 const LENGTH_HIGH: u8 = (SIZE / 256) as u8;
 
 fn wide(b: u8) -> u16

@@ -1,11 +1,12 @@
 -- Each way out of a call, in the table's order: what it is told where the earlier checks pass. Assumes nothing.
-use Prim.Native.Nat.{ℕ, _<_, _≤_}
+use Prim.Native.Nat.{ℕ, _^_, _<_, _≤_}
 use mathlib.Core.Logic.{_≢_}
-use mathlib.Core.Path.{_≡_, sym, ap, _∙_}
-use mathlib.Core.Bool.{Bool, true, false, not}
+use mathlib.Core.Path.{_≡_, refl, sym, ap, _∙_}
+use mathlib.Core.Bool.{Bool, true, false, not, cond}
 use mathlib.Core.List.{List}
-use borrow.Author.Tests.{lt-ltb, le-ltb, eq-eqb, ne-eqb}
-use lib.Dec.{eqb}
+use native.Mathlib.Omega.{arith}
+use borrow.Author.Tests.{lt-ltb, le-ltb, ltb-false, lt-leb, le-leb, eq-eqb, ne-eqb, eqb-false}
+use lib.Dec.{eqb, ltb}
 use lib.ListN.{getD}
 use Rattle.hypercube.specs.Lists.{countBelow}
 use Rattle.hypercube.specs.Bits.{width}
@@ -20,10 +21,11 @@ use Rattle.labels.specs.Relabelling.{relabelling}
 use Rattle.labels.specs.declared.Relabelled.{Relabelled}
 use Rattle.state.specs.declared.State.{State}
 use Rattle.state.specs.declared.Call.{Call}
+use Rattle.state.specs.declared.Step.{Step}
 use Rattle.state.specs.declared.Reply.the-variants.{Granted, Refused, Done}
 use Rattle.state.specs.States.{withCondition, withMap, withHolders, given, cleared}
 use Rattle.state.specs.Valid.{anyBelow, valid}
-use Rattle.state.specs.Acts.{step, refuse, nodeCount, holds, anyHeld, allowed, toldOf, reportStep, relabelStep, walkOf, grantStep, requestStep, releaseStep, acted, called}
+use Rattle.state.specs.Acts.{step, refuse, nodeCount, holds, anyHeld, allowed, toldOf, reportStep, relabelStep, walkOf, grantStep, fieldCause, byFields, requestStep, heldBy, growStep, releaseStep, acted, called}
 use Rattle.state.specs.Walked.{triedIn}
 use Rattle.state.proofs.Below.{any-counted}
 
@@ -46,7 +48,7 @@ module _ (s : State) (x v : ℕ) where
 -- ---- a job j, and k, the number of nodes that it is found to hold below N
 
 module _ (s : State) (j N k : ℕ) (e : N ≡ nodeCount s) (q : k ≡ countBelow N (λ x. eqb (getD (s .holders) x 0) j)) where
-  pub counted : k ≡ countBelow (nodeCount s) (λ x. eqb (getD (s .holders) x 0) j)
+  pub counted : k ≡ heldBy s j
   counted = q ∙ ap (λ (m : ℕ). countBelow m (λ x. eqb (getD (s .holders) x 0) j)) e
 
   pub holds-none : k ≡ 0 → holds s j ≡ false
@@ -67,8 +69,7 @@ module _ (s : State) (j : ℕ) where
     unfolding releaseStep
     release-11 h = simp (ne-eqb _ _ p, h)
 
-    pub release-done : holds s j ≡ true → (k : ℕ) → k ≡ countBelow (nodeCount s) (λ x. eqb (getD (s .holders) x 0) j)
-        → step (withHolders s (cleared (s .holders) j)) (Done k) ≡ releaseStep s j
+    pub release-done : holds s j ≡ true → (k : ℕ) → k ≡ heldBy s j → step (withHolders s (cleared (s .holders) j)) (Done k) ≡ releaseStep s j
     unfolding releaseStep
     release-done h k ek = simp (ne-eqb _ _ p, h, ek)
 
@@ -86,31 +87,74 @@ module _ (s : State) (N : ℕ) (e : N ≡ nodeCount s) (b : Bool) (q : b ≡ any
   unfolding relabelStep
   relabel-done r h y = rw (h, sym held ∙ y, relabelStep)
 
--- ---- a request by job j for dimension k under strategy f
+-- ---- a request or a growth by job j for dimension k under strategy f: its fields
 
 module _ (s : State) (j k f : ℕ) where
-  pub request-6 : j ≡ 0 → refuse s 6 ≡ requestStep s j k f
-  unfolding requestStep
-  request-6 e = simp (eq-eqb _ _ e)
+  pub field-6 : j ≡ 0 → 6 ≡ fieldCause s j k f
+  unfolding fieldCause
+  field-6 e = rw (eq-eqb _ _ e)
 
   module _ (p : j ≢ 0) where
-    pub request-7 : s .n < k → refuse s 7 ≡ requestStep s j k f
-    unfolding requestStep
-    request-7 h = simp (ne-eqb _ _ p, lt-ltb _ _ h)
+    pub field-7 : s .n < k → 7 ≡ fieldCause s j k f
+    unfolding fieldCause
+    field-7 h = rw (ne-eqb _ _ p, lt-ltb _ _ h)
 
     module _ (h : k ≤ s .n) where
-      pub request-9 : 3 < f → refuse s 9 ≡ requestStep s j k f
+      pub field-9 : 3 < f → 9 ≡ fieldCause s j k f
+      unfolding fieldCause
+      field-9 l = rw (ne-eqb _ _ p, le-ltb _ _ h, lt-ltb _ _ l)
+
+      pub field-none : f ≤ 3 → 0 ≡ fieldCause s j k f
+      unfolding fieldCause
+      field-none l = rw (ne-eqb _ _ p, le-ltb _ _ h, le-ltb _ _ l)
+
+  -- where they meet no cause
+  pub fields-fit : _≡_ {A = ℕ} 0 (fieldCause s j k f) → (j ≢ 0) × (k ≤ s .n)
+  unfolding fieldCause
+  fields-fit e = go (eqb j 0) refl (ltb (s .n) k) refl e
+    where
+      go : (a : Bool) → eqb j 0 ≡ a → (b : Bool) → ltb (s .n) k ≡ b → _≡_ {A = ℕ} 0 (cond a 6 (cond b 7 (cond (ltb 3 f) 9 0))) → (j ≢ 0) × (k ≤ s .n)
+      go true p b q e = absurd (omega arith)
+      go false p true q e = absurd (omega arith)
+      go false p false q e = (eqb-false j 0 p, ltb-false (s .n) k q)
+
+  -- m is the cause that they are found to meet
+  module _ {m : ℕ} (e : m ≡ fieldCause s j k f) where
+    pub fields-refused : m ≢ 0 → (t : Step) → refuse s m ≡ byFields s j k f t
+    fields-refused p t = rw (← e, ne-eqb _ _ p)
+
+    pub fields-passed : m ≡ 0 → (t : Step) → t ≡ byFields s j k f t
+    fields-passed z t = rw (← e, eq-eqb _ _ z)
+
+    pub request-fields : m ≢ 0 → refuse s m ≡ requestStep s j k f
+    unfolding requestStep
+    request-fields p = fields-refused p _
+
+    pub grow-fields : m ≢ 0 → refuse s m ≡ growStep s j k f
+    unfolding growStep
+    grow-fields p = fields-refused p _
+
+    module _ (z : m ≡ 0) where
+      pub request-10 : holds s j ≡ true → refuse s 10 ≡ requestStep s j k f
       unfolding requestStep
-      request-9 l = simp (ne-eqb _ _ p, le-ltb _ _ h, lt-ltb _ _ l)
+      request-10 y = rw y (fields-passed z (refuse s 10))
 
-      module _ (l : f ≤ 3) where
-        pub request-10 : holds s j ≡ true → refuse s 10 ≡ requestStep s j k f
-        unfolding requestStep
-        request-10 y = simp (ne-eqb _ _ p, le-ltb _ _ h, le-ltb _ _ l, y)
+      pub request-walk : holds s j ≡ false → grantStep s j (walkOf s j k f) ≡ requestStep s j k f
+      unfolding requestStep
+      request-walk y = rw y (fields-passed z (grantStep s j (walkOf s j k f)))
 
-        pub request-walk : holds s j ≡ false → grantStep s j (walkOf s k f) ≡ requestStep s j k f
-        unfolding requestStep
-        request-walk y = simp (ne-eqb _ _ p, le-ltb _ _ h, le-ltb _ _ l, y)
+      pub grow-11 : holds s j ≡ false → refuse s 11 ≡ growStep s j k f
+      unfolding growStep
+      grow-11 y = rw y (fields-passed z (refuse s 11))
+
+      module _ (y : holds s j ≡ true) {c : ℕ} (ec : c ≡ heldBy s j) where
+        pub grow-17 : 2 ^ k ≤ c → refuse s 17 ≡ growStep s j k f
+        unfolding growStep
+        grow-17 q = rw (y, ← ec, le-leb _ _ q) (fields-passed z (refuse s 17))
+
+        pub grow-walk : c < 2 ^ k → grantStep s j (walkOf s j k f) ≡ growStep s j k f
+        unfolding growStep
+        grow-walk q = rw (y, ← ec, lt-leb _ _ q) (fields-passed z (grantStep s j (walkOf s j k f)))
 
 -- ---- what is told of a walk
 
@@ -121,7 +165,7 @@ module _ (s : State) (j : ℕ) (w v : Walk) (a : w ≡ v) where
   -- ds is the map that the member was moved by
   pub grant-found : (c : Subcube) (t : ℕ) → w ≡ Found c t → {ds : List ℕ} → ds ≡ s .map → (low : Node) → low .0 ≡ node ds (c .low .0)
       → (stars : ℕ) → stars ≡ node ds (c .stars)
-      → step (withHolders s (given (s .holders) (vertices width stars (low .0)) j)) (Granted j low stars t) ≡ grantStep s j v
+      → step (withHolders s (given (cleared (s .holders) j) (vertices width stars (low .0)) j)) (Granted j low stars t) ≡ grantStep s j v
   grant-found c t e {ds} ed low el stars es =
       let at : low ≡ numbered (node ds (c .low .0)) = ap numbered el in
       rw (sym a ∙ e, at, es, ed)

@@ -18,7 +18,7 @@ pub struct State {
     pub conditions: [u8; 1024],
 }
 
-// The six calls (document 01, "Six calls and their frames").
+// The calls (document 01, "Six calls and their frames").
 pub enum Call {
     Good(Node),
     Fault(Node),
@@ -26,6 +26,7 @@ pub enum Call {
     Relabel,
     Request { job: u16, k: u8, strategy: u8 },
     Release(u16),
+    Grow { job: u16, k: u8, strategy: u8 },
 }
 
 // What a call is told.

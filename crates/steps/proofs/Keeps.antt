@@ -1,11 +1,11 @@
 -- What every call keeps of a state: the arrays' lengths and n; and a refusal leaves it as it came. Assumes nothing.
-use Prim.Native.Nat.{ℕ, _≤_}
+use Prim.Native.Nat.{ℕ, _^_, _≤_}
 use mathlib.Core.Logic.{_≢_}
 use mathlib.Core.Path.{_≡_, refl, _∙_}
 use mathlib.Core.Bool.{cond}
 use mathlib.Core.List.{List}
 use borrow.Author.Tests.{eqb-false}
-use lib.Dec.{eqb, ltb}
+use lib.Dec.{eqb, ltb, leb}
 use lib.ListN.{length, getD, length-set, length-map}
 use Rattle.hypercube.specs.Bits.{width}
 use Rattle.hypercube.specs.Lists.{among}
@@ -19,12 +19,12 @@ use Rattle.hypercube.proofs.Relabels.{relabel-permutes}
 use Rattle.labels.specs.Relabelling.{notGood}
 use Rattle.state.specs.declared.State.{State}
 use Rattle.state.specs.declared.Call.{Call}
-use Rattle.state.specs.declared.Call.the-variants.{Good, Fault, Repaired, Relabel, Request, Release}
+use Rattle.state.specs.declared.Call.the-variants.{Good, Fault, Repaired, Relabel, Request, Release, Grow}
 use Rattle.state.specs.declared.Reply.{Reply}
 use Rattle.state.specs.declared.Step.{Step}
 use Rattle.state.specs.States.{withCondition, withHolders, cleared}
 use Rattle.state.specs.Acts.{numberOf, step, nodeCount, holds, anyHeld, acted}
-use Rattle.state.specs.Acts.{allowed, reportStep, relabelStep, walkOf, grantStep, requestStep, releaseStep}
+use Rattle.state.specs.Acts.{allowed, reportStep, relabelStep, walkOf, grantStep, fieldCause, byFields, requestStep, heldBy, growStep, releaseStep}
 use Rattle.record.specs.Layout.{encode}
 use Rattle.record.proofs.Round.{Sized}
 use Rattle.steps.specs.Carried.{stored}
@@ -77,16 +77,23 @@ module _ (s : State) (z : Sized s) where
   kept-grant : (j : ℕ) (w : Walk) → Kept s (grantStep s j w)
   kept-grant j (Found c t) =
       let xs = vertices width (node (s .map) (c .stars)) (node (s .map) (c .low .0)) in
-      kept-holders _ (length-of (λ x. cond (among x xs) j (getD (s .holders) x 0)) 0 1024) _ refl
+      kept-holders _ (length-of (λ x. cond (among x xs) j (getD (cleared (s .holders) j) x 0)) 0 1024) _ refl
   kept-grant j (NoneFree t) = kept-all _
+
+  -- a request or a growth that is refused by its fields, or does what keeps it
+  kept-fields : (j k f : ℕ) {t : Step} → Kept s t → Kept s (byFields s j k f t)
+  kept-fields j k f h = cases (eqb (fieldCause s j k f) 0) (λ e. rw e h) (λ e. rw e (kept-all _))
 
   kept-request : (j k f : ℕ) → Kept s (requestStep s j k f)
   unfolding requestStep
-  kept-request j k f =
-      cases (eqb j 0) (λ l. rw l (kept-all _))
-      (λ l. rw l (cases (ltb (s .n) k) (λ d. rw d (kept-all _))
-      (λ d. rw d (cases (ltb 3 f) (λ g. rw g (kept-all _))
-      (λ g. rw g (cases (holds s j) (λ h. rw h (kept-all _)) (λ h. rw h (kept-grant j (walkOf s k f)))))))))
+  kept-request j k f = kept-fields j k f (cases (holds s j) (λ h. rw h (kept-all _)) (λ h. rw h (kept-grant j (walkOf s j k f))))
+
+  kept-grow : (j k f : ℕ) → Kept s (growStep s j k f)
+  unfolding growStep
+  kept-grow j k f =
+      kept-fields j k f (cases (holds s j)
+      (λ h. rw h (cases (leb (2 ^ k) (heldBy s j)) (λ q. rw q (kept-all _)) (λ q. rw q (kept-grant j (walkOf s j k f)))))
+      (λ h. rw h (kept-all _)))
 
   kept-release : (j : ℕ) → Kept s (releaseStep s j)
   unfolding releaseStep
@@ -103,6 +110,7 @@ module _ (s : State) (z : Sized s) where
   kept small Relabel = kept-relabel small
   kept small (Request j k f) = kept-request j k f
   kept small (Release j) = kept-release j
+  kept small (Grow j k f) = kept-grow j k f
 
   -- whatever it is told, the record of the state after it
   pub stored-kept : (t : Step) → Kept s t → stored (encode s) t ≡ encode (t .state)

@@ -1,16 +1,16 @@
 -- The few calls by which the worthless programs are refuted, and what the history says of them. Assumes nothing.
 use mathlib.Core.Path.{_≡_, refl}
 use mathlib.Core.List.{List, [], _∷_}
-use mathlib.Core.Logic.{Dec·and, Dec·not}
+use mathlib.Core.Logic.{inl, Dec·and, Dec·not}
 use Prim.Native.Nat.{ℕ}
 use native.Mathlib.Decide.{ℕ-discrete, decLe, decLt}
 use lib.ListN.{getD}
-use Rattle.hypercube.specs.Lists.{over, some-of, among, countBelow}
+use Rattle.hypercube.specs.Lists.{In, over, some-of, among, countBelow}
 use Rattle.hypercube.specs.Labels.{label, node, size, assign}
 use Rattle.hypercube.specs.Subcubes.{vertices, freeAt}
 use Rattle.hypercube.specs.Families.{firstFree}
-use Rattle.hypercube.proofs.Decisions.{dec-or, dec-some, dec-every}
-use Rattle.history.specs.Calls.{request, word, kindOf, lengthField, kind, nodeField, job, dimension, strategy}
+use Rattle.hypercube.proofs.Decisions.{dec-or, dec-in, dec-some, dec-every}
+use Rattle.history.specs.Calls.{asking, word, kindOf, lengthField, kind, nodeField, job, dimension, strategy}
 use Rattle.history.specs.Causes.{causes}
 use Rattle.history.specs.Verdicts.{granted, refused, done, firstMet, decided, cause, accept, tell, step, verdict}
 use Rattle.state.specs.declared.Call.the-variants.{Good, Relabel, Request}
@@ -67,9 +67,9 @@ pub parsed-relabel : parsed (relabels .frame) ≡ Known Relabel
 unfolding parsed byKind sized word kindOf
 parsed-relabel = refl
 
-pub requests : kind (fed (asks 1)) ≡ request
+pub requests : In (kind (fed (asks 1))) asking
 unfolding kind word kindOf
-requests = refl
+requests = inl refl
 
 -- what the history says: a silent node is not granted; a good one is, and is held; of two the second is the second tried; two silent nodes differ in
 -- a direction, and where one of them is good none do; by two silent nodes across direction 2 direction 1 moves to 2
@@ -92,7 +92,7 @@ pub record Told : Type 0 where
   pub across-moved : getD (historyAt 2 (across next relabels) .directions) 0 0 ≡ 2
 
 pub told : Told
-unfolding over some-of label node size assign vertices freeAt firstFree dec-or dec-some dec-every word kindOf lengthField kind nodeField job dimension strategy among countBelow causes firstMet decided cause accept tell step verdict Dec·and Dec·not ℕ-discrete decLe decLt
+unfolding over some-of label node size assign vertices freeAt firstFree dec-or dec-in dec-some dec-every word kindOf lengthField kind nodeField job dimension strategy among countBelow causes firstMet decided cause accept tell step verdict Dec·and Dec·not ℕ-discrete decLe decLt
 told = record {
   silent = refl;
   one-granted = refl;

@@ -39,7 +39,7 @@ use Rattle.cube.specs.Demand3.{Demand3}
 use Rattle.steps.proofs.Ways.{state-valid}
 use Rattle.cube.proofs.Heard.{heard-back}
 use Rattle.cube.proofs.Theorem.{demand3}
-use Rattle.weak.specs.Programs.{Requests, requesting, asking, answers14, unstarted, lowest, unrecorded, firstJob, plausible, anyTried}
+use Rattle.weak.specs.Programs.{Requests, requesting, byRequests, answers14, unstarted, lowest, unrecorded, firstJob, plausible, anyTried}
 use Rattle.weak.specs.Parts.{NoneFreeRight, RefusalRight, HeldDisjoint, HoldersRight, ReplyRight, Refuted}
 use Rattle.weak.proofs.Parts.{none-free, refusal, disjoint, holders, replied, breaks}
 use Rattle.weak.proofs.Frames.{good, asks, one, two, parsed-0, parsed-1, parsed-job-1, parsed-job-2, requests, told}
@@ -103,29 +103,29 @@ module _ (b : List ℕ) (whole : length b ≡ recordSize) where
 
   -- the record before the first request is the delivered program's
   module _ (q : Requests) where
-    at-one : recordAfter (asking q) (setupRecord b 0) one ≡ recordAfter delivered (setupRecord b 0) one
+    at-one : recordAfter (byRequests q) (setupRecord b 0) one ≡ recordAfter delivered (setupRecord b 0) one
     at-one = same-call (requesting q) _ (good 0) (Good (record { 0 = 0 })) parsed-0 refl
 
-    at-first : recordAfter (asking q) (setupRecord b 1) (begin next good 0) ≡ recordAfter delivered (setupRecord b 1) (begin next good 0)
+    at-first : recordAfter (byRequests q) (setupRecord b 1) (begin next good 0) ≡ recordAfter delivered (setupRecord b 1) (begin next good 0)
     at-first = same-call (requesting q) _ (good 0) (Good (record { 0 = 0 })) parsed-0 refl
 
-    at-two : recordAfter (asking q) (setupRecord b 1) two ≡ recordAfter delivered (setupRecord b 1) two
+    at-two : recordAfter (byRequests q) (setupRecord b 1) two ≡ recordAfter delivered (setupRecord b 1) two
     at-two =
         same-call (requesting q) _ (good 1) (Good (record { 0 = 1 })) parsed-1 refl
         ∙ ap (λ (r : List ℕ). delivered .call-record r (good 1 .frame) (good 1 .buffer)) at-first
 
-    valid-one : validRecord (recordAfter (asking q) (setupRecord b 0) one) ≡ true
+    valid-one : validRecord (recordAfter (byRequests q) (setupRecord b 0) one) ≡ true
     valid-one = rw at-one (one-node .list .recorded one .valid)
 
     -- and after it, where it is told the same number and leaves the same state
-    module _ (s : State) (e : decode (recordAfter (asking q) (setupRecord b 1) two) ≡ s) (a : numberOf (q s 1 0 0 .reply) ≡ numberOf (requestStep s 1 0 0 .reply))
+    module _ (s : State) (e : decode (recordAfter (byRequests q) (setupRecord b 1) two) ≡ s) (a : numberOf (q s 1 0 0 .reply) ≡ numberOf (requestStep s 1 0 0 .reply))
         (left : q s 1 0 0 .state ≡ requestStep s 1 0 0 .state) where
-      at-later : recordAfter (asking q) (setupRecord b 1) (two next asks 1) ≡ recordAfter delivered (setupRecord b 1) (two next asks 1)
+      at-later : recordAfter (byRequests q) (setupRecord b 1) (two next asks 1) ≡ recordAfter delivered (setupRecord b 1) (two next asks 1)
       at-later =
           same-record (requesting q) _ (asks 1) (Request 1 0 0) parsed-job-1 (rw at-two (two-nodes .list .recorded two .valid)) refl (rw e a) (rw e left)
           ∙ ap (λ (r : List ℕ). delivered .call-record r (asks 1 .frame) (asks 1 .buffer)) at-two
 
-      valid-later : validRecord (recordAfter (asking q) (setupRecord b 1) (two next asks 1)) ≡ true
+      valid-later : validRecord (recordAfter (byRequests q) (setupRecord b 1) (two next asks 1)) ≡ true
       valid-later = rw at-later (two-nodes .list .recorded (two next asks 1) .valid)
 
   -- ---- a free member exists
@@ -133,7 +133,7 @@ module _ (b : List ℕ) (whole : length b ≡ recordSize) where
   none-met : NoneMet (causes 0) (historyAt 0 one) (fed (asks 1))
   none-met = one-node .list .calls one (asks 1) .accepted-by-none .0 (one-node .list .calls one (asks 1) .returned ∙ ap returns (told .one-granted))
 
-  says-14 : (q : Requests) → ((s : State) → numberOf (q s 1 0 0 .reply) ≡ 14) → ¬ NoneFreeRight (asking q) 0 b
+  says-14 : (q : Requests) → ((s : State) → numberOf (q s 1 0 0 .reply) ≡ 14) → ¬ NoneFreeRight (byRequests q) 0 b
   says-14 q e claim =
       passed 0 (historyAt 0 one) (fed (asks 1)) none-met .some-free requests
       (claim one (asks 1) requests (earlier-none 0 _ _ none-met)
@@ -141,7 +141,7 @@ module _ (b : List ℕ) (whole : length b ≡ recordSize) where
 
   -- ---- 'tried' of a walk unstarted
 
-  tried-wrong : ¬ RefusalRight (asking unstarted) 0 b
+  tried-wrong : ¬ RefusalRight (byRequests unstarted) 0 b
   unfolding word words frameOf over strategy dimension
   tried-wrong claim =
       let judged = one-node .list .calls begin (asks 1) in
@@ -152,20 +152,20 @@ module _ (b : List ℕ) (whole : length b ≡ recordSize) where
 
   -- ---- disjoint
 
-  told-lowest : (es : Exchanges) → validRecord (recordAfter (asking lowest) (setupRecord b 0) es) ≡ true → (j : ℕ) → parsed (asks j .frame) ≡ Known (Request j 0 0)
-      → heard (number (asking lowest) (setupRecord b 0) es (asks j)) (reply (asking lowest) (setupRecord b 0) es (asks j)) ≡ granted j 0 0 1
+  told-lowest : (es : Exchanges) → validRecord (recordAfter (byRequests lowest) (setupRecord b 0) es) ≡ true → (j : ℕ) → parsed (asks j .frame) ≡ Known (Request j 0 0)
+      → heard (number (byRequests lowest) (setupRecord b 0) es (asks j)) (reply (byRequests lowest) (setupRecord b 0) es (asks j)) ≡ granted j 0 0 1
   unfolding frameOf
   told-lowest es v j e =
       ap₂ heard (number-is (requesting lowest) _ (asks j) (Request j 0 0) e v refl) (reply-is (requesting lowest) _ (asks j) (Request j 0 0) e v refl)
       ∙ heard-back (granted j 0 0 1) (asks j .buffer) tt
 
-  valid-next : validRecord (recordAfter (asking lowest) (setupRecord b 0) (one next asks 1)) ≡ true
+  valid-next : validRecord (recordAfter (byRequests lowest) (setupRecord b 0) (one next asks 1)) ≡ true
   valid-next =
-      let r = recordAfter (asking lowest) (setupRecord b 0) one in
+      let r = recordAfter (byRequests lowest) (setupRecord b 0) one in
       rw (record-is (requesting lowest) r (asks 1) (Request 1 0 0) parsed-job-1 (valid-one lowest) refl refl)
       (stays-valid (decode r) (sized-decode r) (state-valid r (valid-one lowest)) 1)
 
-  lowest-wrong : ¬ HeldDisjoint (asking lowest) 0 b
+  lowest-wrong : ¬ HeldDisjoint (byRequests lowest) 0 b
   unfolding without vertices
   lowest-wrong claim =
       let first = told-lowest one (valid-one lowest) 1 parsed-job-1 in
@@ -179,15 +179,15 @@ module _ (b : List ℕ) (whole : length b ≡ recordSize) where
   kept : (r : List ℕ) (x : ℕ) → x < 1024 → word (encode (decode r)) (holdersAt + 2 * x) ≡ word r (holdersAt + 2 * x)
   kept r x h = encode-holder (decode r) (sized-decode r) x h ∙ decode-holder r x h
 
-  record-wrong : ¬ HoldersRight (asking unrecorded) 0 b
+  record-wrong : ¬ HoldersRight (byRequests unrecorded) 0 b
   record-wrong claim =
-      let r = recordAfter (asking unrecorded) (setupRecord b 0) one in
+      let r = recordAfter (byRequests unrecorded) (setupRecord b 0) one in
       let v = valid-one unrecorded in
       let accepted : numberOf (requestStep (decode r) 1 0 0 .reply) ≡ 0 =
       sym (delivered-number (requesting unrecorded) r (asks 1) (Request 1 0 0) parsed-job-1 v refl)
       ∙ ap (λ (r : List ℕ). delivered .call-number r (asks 1 .frame) (asks 1 .buffer)) (at-one unrecorded)
       ∙ one-node .list .calls one (asks 1) .returned ∙ ap returns (told .one-granted) in
-      let left : word (recordAfter (asking unrecorded) (setupRecord b 0) (one next asks 1)) 16 ≡ 0 =
+      let left : word (recordAfter (byRequests unrecorded) (setupRecord b 0) (one next asks 1)) 16 ≡ 0 =
       ap (λ (r : List ℕ). word r 16) (record-is (requesting unrecorded) r (asks 1) (Request 1 0 0) parsed-job-1 v refl accepted)
       ∙ kept r 0 (omega arith) ∙ ap (λ (r : List ℕ). word r 16) (at-one unrecorded)
       ∙ one-node .list .recorded one .holders 0 (omega arith) ∙ told .one-free in
@@ -196,21 +196,21 @@ module _ (b : List ℕ) (whole : length b ≡ recordSize) where
 
   -- ---- over the list
 
-  over-list-wrong : ¬ HoldersRight (asking firstJob) 1 b
+  over-list-wrong : ¬ HoldersRight (byRequests firstJob) 1 b
   over-list-wrong claim =
       let later = two next asks 1 in
       let g = asks 2 .frame in
       let p = asks 2 .buffer in
       let before = two-nodes .list .recorded two in
       let after = two-nodes .list .recorded later in
-      let none : anyHeld (decode (recordAfter (asking firstJob) (setupRecord b 1) two)) ≡ false =
+      let none : anyHeld (decode (recordAfter (byRequests firstJob) (setupRecord b 1) two)) ≡ false =
       rw (at-two firstJob)
       (none-held (decode (recordAfter delivered (setupRecord b 1) two)) (λ x h.
       let l : x < 2 = rw (dimension-of (recordAfter delivered (setupRecord b 1) two), before .dimension) at h in
       decode-holder _ x (omega arith) ∙ before .holders x l ∙ told .none-held x)) in
       let same = at-later firstJob _ refl (rw none refl) (rw none refl) in
       let v = valid-later firstJob _ refl (rw none refl) (rw none refl) in
-      let r = recordAfter (asking firstJob) (setupRecord b 1) later in
+      let r = recordAfter (byRequests firstJob) (setupRecord b 1) later in
       let some : anyHeld (decode r) ≡ true =
       rw same
       (some-held (decode (recordAfter delivered (setupRecord b 1) later)) 0 (pow-pos _)
@@ -219,7 +219,7 @@ module _ (b : List ℕ) (whole : length b ≡ recordSize) where
       (rw some refl) ∙ sym (delivered-number (requesting firstJob) r (asks 2) (Request 2 0 0) parsed-job-2 v refl)
       ∙ ap (λ (r : List ℕ). delivered .call-number r g p) same
       ∙ two-nodes .list .calls later (asks 2) .returned ∙ ap returns (told .second-granted) in
-      let left : word (recordAfter (asking firstJob) (setupRecord b 1) (later next asks 2)) 18 ≡ 0 =
+      let left : word (recordAfter (byRequests firstJob) (setupRecord b 1) (later next asks 2)) 18 ≡ 0 =
       ap (λ (r : List ℕ). word r 18) (record-is (requesting firstJob) r (asks 2) (Request 2 0 0) parsed-job-2 v refl accepted)
       ∙ (rw some (kept r 1 (omega arith)))
       ∙ ap (λ (r : List ℕ). word r 18) same ∙ after .holders 1 (omega arith) ∙ told .first-held .1 in
@@ -228,15 +228,15 @@ module _ (b : List ℕ) (whole : length b ≡ recordSize) where
 
   -- ---- place in the order
 
-  tried-of-two : ¬ ReplyRight (asking anyTried) 1 b
+  tried-of-two : ¬ ReplyRight (byRequests anyTried) 1 b
   tried-of-two claim =
       let later = two next asks 1 in
       let g = asks 2 .frame in
       let p = asks 2 .buffer in
-      let number = same-number (requestStep (decode (recordAfter (asking anyTried) (setupRecord b 1) two)) 1 0 0 .reply) in
+      let number = same-number (requestStep (decode (recordAfter (byRequests anyTried) (setupRecord b 1) two)) 1 0 0 .reply) in
       let same = at-later anyTried _ refl number refl in
       let v = valid-later anyTried _ refl number refl in
-      let r = recordAfter (asking anyTried) (setupRecord b 1) later in
+      let r = recordAfter (byRequests anyTried) (setupRecord b 1) later in
       let right = ap (λ v. replies v p) (told .second-granted) in
       tried-two (requestStep (decode r) 2 0 0 .reply) p
       (sym (delivered-reply (requesting anyTried) r (asks 2) (Request 2 0 0) parsed-job-2 v refl)
@@ -246,11 +246,11 @@ module _ (b : List ℕ) (whole : length b ≡ recordSize) where
 
   pub refuted : Refuted b
   refuted = record {
-    a-free-member-exists = breaks NoneFreeRight none-free (asking answers14) 0 b (says-14 answers14 (λ s. refl));
-    unstarted-free = breaks NoneFreeRight none-free (asking unstarted) 0 b (says-14 unstarted (λ s. refl));
-    unstarted-tried = breaks RefusalRight refusal (asking unstarted) 0 b tried-wrong;
-    not-disjoint = breaks HeldDisjoint disjoint (asking lowest) 0 b lowest-wrong;
-    record-unchanged = breaks HoldersRight holders (asking unrecorded) 0 b record-wrong;
-    over-the-list = breaks HoldersRight holders (asking firstJob) 1 b over-list-wrong;
-    place-in-the-order = breaks ReplyRight replied (asking anyTried) 1 b tried-of-two;
+    a-free-member-exists = breaks NoneFreeRight none-free (byRequests answers14) 0 b (says-14 answers14 (λ s. refl));
+    unstarted-free = breaks NoneFreeRight none-free (byRequests unstarted) 0 b (says-14 unstarted (λ s. refl));
+    unstarted-tried = breaks RefusalRight refusal (byRequests unstarted) 0 b tried-wrong;
+    not-disjoint = breaks HeldDisjoint disjoint (byRequests lowest) 0 b lowest-wrong;
+    record-unchanged = breaks HoldersRight holders (byRequests unrecorded) 0 b record-wrong;
+    over-the-list = breaks HoldersRight holders (byRequests firstJob) 1 b over-list-wrong;
+    place-in-the-order = breaks ReplyRight replied (byRequests anyTried) 1 b tried-of-two;
   }

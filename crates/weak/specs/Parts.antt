@@ -3,7 +3,8 @@
 use Prim.Native.Nat.{ℕ, _+_, _*_, _^_, _<_}
 use mathlib.Core.Path.{_≡_}
 use mathlib.Core.List.{List, []}
-use Rattle.history.specs.Calls.{request, kind, word}
+use Rattle.history.specs.Calls.{kind, ask, asking, word}
+use Rattle.hypercube.specs.Lists.{In}
 use Rattle.history.specs.Causes.{First, NoneMet, NoMemberFree, earlier, causes}
 use Rattle.history.specs.Verdicts.{refused, tried, verdict}
 use Rattle.history.specs.Held.{Disjoint}
@@ -11,7 +12,7 @@ use Rattle.record.specs.Layout.{holdersAt}
 use Rattle.cube.specs.Called.{Program}
 use Rattle.cube.specs.Demand3.{Demand3}
 use Rattle.cube.specs.Run.{Exchange, Exchanges, fed, replies, recordAfter, number, reply, heldAt, historyAt}
-use Rattle.weak.specs.Programs.{asking, answers14, unstarted, lowest, unrecorded, firstJob, anyTried}
+use Rattle.weak.specs.Programs.{byRequests, answers14, unstarted, lowest, unrecorded, firstJob, anyTried}
 
 module _ (P : Program) (n : ℕ) (b : List ℕ) where
   -- the record that the list begins at
@@ -21,8 +22,8 @@ module _ (P : Program) (n : ℕ) (b : List ℕ) where
   -- 3: 'none free' is said only where no member is free
   abbrev pub NoneFreeRight : Type 0
   NoneFreeRight =
-      (es : Exchanges) (e : Exchange) → kind (fed e) ≡ request → NoneMet (earlier n) (historyAt n es) (fed e) → number P r₀ es e ≡ 14
-      → NoMemberFree n (historyAt n es) (fed e)
+      (es : Exchanges) (e : Exchange) → In (kind (fed e)) asking → NoneMet (earlier n) (historyAt n es) (fed e) → number P r₀ es e ≡ 14
+      → NoMemberFree n (historyAt n es) (ask (fed e))
 
   -- 2 for tried: a refusal's reply has its number and what was tried
   abbrev pub RefusalRight : Type 0
@@ -50,10 +51,10 @@ pub record Breaks (Part : Program → ℕ → List ℕ → Type 0) (P : Program)
 
 -- on any buffer of the record's size, b
 pub record Refuted (b : List ℕ) : Type 0 where
-  pub a-free-member-exists : Breaks NoneFreeRight (asking answers14) 0 b
-  pub unstarted-free : Breaks NoneFreeRight (asking unstarted) 0 b
-  pub unstarted-tried : Breaks RefusalRight (asking unstarted) 0 b
-  pub not-disjoint : Breaks HeldDisjoint (asking lowest) 0 b
-  pub record-unchanged : Breaks HoldersRight (asking unrecorded) 0 b
-  pub over-the-list : Breaks HoldersRight (asking firstJob) 1 b
-  pub place-in-the-order : Breaks ReplyRight (asking anyTried) 1 b
+  pub a-free-member-exists : Breaks NoneFreeRight (byRequests answers14) 0 b
+  pub unstarted-free : Breaks NoneFreeRight (byRequests unstarted) 0 b
+  pub unstarted-tried : Breaks RefusalRight (byRequests unstarted) 0 b
+  pub not-disjoint : Breaks HeldDisjoint (byRequests lowest) 0 b
+  pub record-unchanged : Breaks HoldersRight (byRequests unrecorded) 0 b
+  pub over-the-list : Breaks HoldersRight (byRequests firstJob) 1 b
+  pub place-in-the-order : Breaks ReplyRight (byRequests anyTried) 1 b

@@ -9,7 +9,7 @@ use Rattle.hypercube.specs.Subcubes.{vertices}
 use Rattle.hypercube.specs.Families.{family}
 use Rattle.state.specs.declared.State.{State}
 use Rattle.state.specs.declared.Call.{Call}
-use Rattle.state.specs.declared.Call.the-variants.{Good, Fault, Repaired, Relabel, Request, Release}
+use Rattle.state.specs.declared.Call.the-variants.{Good, Fault, Repaired, Relabel, Request, Release, Grow}
 use Rattle.state.specs.declared.Reply.{Reply}
 use Rattle.state.specs.declared.Reply.the-variants.{Granted, Refused, Done}
 use Rattle.state.specs.declared.Step.{Step}
@@ -55,9 +55,10 @@ requesting q s (Repaired x) = acted s (Repaired x)
 requesting q s Relabel = acted s Relabel
 requesting q s (Request j k f) = q s j k f
 requesting q s (Release j) = acted s (Release j)
+requesting q s (Grow j k f) = acted s (Grow j k f)
 
-abbrev pub asking : Requests → Program
-asking q = by (requesting q)
+abbrev pub byRequests : Requests → Program
+byRequests q = by (requesting q)
 
 -- "answers 14 to each request"
 abbrev pub answers14 : Requests

@@ -8,7 +8,7 @@ use lib.ListN.{getD}
 use Rattle.hypercube.specs.Labels.{differing, size, relabelled}
 use Rattle.labels.specs.Relabelling.{notGood}
 use Rattle.state.specs.declared.State.{State}
-use Rattle.state.specs.declared.Call.the-variants.{Good, Fault, Repaired, Relabel, Request, Release}
+use Rattle.state.specs.declared.Call.the-variants.{Good, Fault, Repaired, Relabel, Request, Release, Grow}
 use Rattle.state.specs.declared.Reply.the-variants.{Done}
 use Rattle.state.specs.declared.Step.{Step}
 use Rattle.state.specs.States.{withMap}
@@ -37,6 +37,7 @@ relabelling mapped sized s (Repaired x) = acted s (Repaired x)
 relabelling mapped sized s Relabel = relabelOver mapped sized s
 relabelling mapped sized s (Request j k f) = acted s (Request j k f)
 relabelling mapped sized s (Release j) = acted s (Release j)
+relabelling mapped sized s (Grow j k f) = acted s (Grow j k f)
 
 -- those reported faulty
 abbrev pub faultyOnly : Over

@@ -40,6 +40,12 @@ enum-known-c-5 c = search needs
 release-on-requires : tie.Need-release-on-requires
 release-on-requires c κs = search needs
 
+enum-known-c-6 : tie.Need-enum-known-c-6
+enum-known-c-6 c = search needs
+
+grow-on-requires : tie.Need-grow-on-requires
+grow-on-requires c κs = search needs
+
 same-length : tie.Need-same-length
 same-length c = search needs
 
@@ -76,6 +82,12 @@ same-length-6 c = search needs
 returns-6 : tie.Need-returns-6
 returns-6 c = by-call _ (c .before .before .before .before .before .c5 .given .1) (c .before .before .release-on .ensures)
 
+same-length-7 : tie.Need-same-length-7
+same-length-7 c = search needs
+
+returns-7 : tie.Need-returns-7
+returns-7 c = by-call _ (c .before .before .before .before .before .c6 .given .1) (c .before .before .grow-on .ensures)
+
 pub call-record-spec : {M : Type 1} → statement M
 call-record-spec =
     tie.close
@@ -92,6 +104,8 @@ call-record-spec =
     request-on-requires
     enum-known-c-5
     release-on-requires
+    enum-known-c-6
+    grow-on-requires
     same-length
     returns
     same-length-2
@@ -103,4 +117,6 @@ call-record-spec =
     same-length-5
     returns-5
     same-length-6
-    returns-6)
+    returns-6
+    same-length-7
+    returns-7)

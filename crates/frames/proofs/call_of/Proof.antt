@@ -1,6 +1,6 @@
 -- The call of a frame of its kind's size, by the number of the kind. Assumes nothing.
 use native.Mathlib.Omega.{arith}
-use Rattle.frames.proofs.Parsing.{has-field, request-size, known-relabel, known-good, known-fault, known-repaired, known-request, known-release}
+use Rattle.frames.proofs.Parsing.{has-field, request-size, grow-size, known-grow, known-relabel, known-good, known-fault, known-repaired, known-request, known-release}
 use Rattle.frames.proofs.call_of.Statement.{statement}
 use Rattle.frames.proofs.call_of.Tie as tie
 
@@ -34,11 +34,26 @@ returns-5 c =
     let d = c .before .before in
     known-request _ _ (d .before .before .before .before .pre .right) _ (d .before .word .ensures) (d .match .keys4)
 
+shared-slice-read-t14 : tie.Need-shared-slice-read-t14
+shared-slice-read-t14 c =
+    let d = c .before in
+    omega (arith, grow-size _ _ (d .before .before .before .before .pre .right) (d .match .keys5))
+
+shared-slice-read-t16 : tie.Need-shared-slice-read-t16
+shared-slice-read-t16 c =
+    let d = c .before .before in
+    omega (arith, grow-size _ _ (d .before .before .before .before .pre .right) (d .match .keys5))
+
 returns-6 : tie.Need-returns-6
 returns-6 c =
+    let d = c .before .before in
+    known-grow _ _ (d .before .before .before .before .pre .right) _ (d .before .word .ensures) (d .match .keys5)
+
+returns-7 : tie.Need-returns-7
+returns-7 c =
     let n = c .match .rest in
     let p = c .before .before .before .before .pre in
-    known-release _ _ (p .right) _ (c .before .word .ensures) (p .whole) (n .0 .0 .0 .1) (n .0 .0 .1) (n .0 .1) (c .before .before .if1 .left) (n .1)
+    known-release _ _ (p .right) _ (c .before .word .ensures) (p .whole) (n .0 .0 .0 .0 .1) (n .0 .0 .0 .1) (n .0 .0 .1) (c .before .before .if1 .left) (n .0 .1) (n .1)
 
 pub call-of-spec : {M : Type 1} → statement M
 call-of-spec =
@@ -48,8 +63,11 @@ call-of-spec =
     word-requires
     shared-slice-read-t10
     shared-slice-read-t12
+    shared-slice-read-t14
+    shared-slice-read-t16
     returns-2
     returns-3
     returns-4
     returns-5
-    returns-6)
+    returns-6
+    returns-7)

@@ -28,7 +28,7 @@ flags-by-label-requires c κs =
     let count = made .before .before in
     let read = count .before in
     let start = read .before .before in
-    walk-asked (decode (start .args .rec .now)) (state-valid _ (start .pre .0)) (read .dimension .ensures)
+    walk-asked (decode (start .args .rec .now)) (state-valid _ (start .pre .0)) (start .args .job) (read .dimension .ensures)
     (start .pre .1 .0) (count .nodes-of .ensures .0)
     (made .flags-by-node .ensures)
 
@@ -46,7 +46,7 @@ returns c =
     let count = made .before .before in
     let read = count .before in
     let start = read .before .before in
-    walked (decode (start .args .rec .now)) (state-valid _ (start .pre .0)) (read .dimension .ensures)
+    walked (decode (start .args .rec .now)) (state-valid _ (start .pre .0)) (start .args .job) (read .dimension .ensures)
     (start .pre .1 .0) (count .nodes-of .ensures .0)
     (made .flags-by-node .ensures) (moved .flags-by-label .ensures) (start .args .k) (start .args .strategy) (c .choose .ensures)
 

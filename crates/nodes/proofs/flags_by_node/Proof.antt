@@ -13,14 +13,14 @@ use Rattle.nodes.proofs.flags_by_node.Statement.{statement}
 use Rattle.nodes.proofs.flags_by_node.Tie as tie
 
 -- the flag of node x by a record
-abbrev flagIn : List ℕ → ℕ → ℕ
-flagIn r = flag (decode r .conditions) (decode r .holders)
+abbrev flagIn : List ℕ → ℕ → ℕ → ℕ
+flagIn r j = flag (decode r .conditions) (decode r .holders) j
 
 abbrev Inv-loop : tie.InvT-loop
-Inv-loop bytes size flags₀ x₀ flags x = Swept (flagIn bytes) 0 flags₀ x flags × (x ≤ size) × (size ≤ 1024)
+Inv-loop bytes size job flags₀ x₀ flags x = Swept (flagIn bytes job) 0 flags₀ x flags × (x ≤ size) × (size ≤ 1024)
 
 abbrev μ-loop : tie.MeasureT-loop
-μ-loop bytes size flags₀ x₀ flags x = size - x
+μ-loop bytes size job flags₀ x₀ flags x = size - x
 
 loop-holds : tie.Need-loop-holds Inv-loop μ-loop
 loop-holds c = (swept-none (λ k h. absurd (omega arith)), omega arith, omega arith)
@@ -59,9 +59,9 @@ loop-again c =
     let a = at .before .before .args in
     let r = a .bytes .now in
     let l = at .loop in
-    let v : c .flag-of .result ≡ flagIn r (l .x) =
+    let v : c .flag-of .result ≡ flagIn r (a .job) (l .x) =
     c .flag-of .ensures
-    ∙ ap₂ flagOf (sym (decode-condition r (l .x) (omega arith))) (c .before .word .ensures ∙ sym (decode-holder r (l .x) (omega arith))) in
+    ∙ ap₂ (λ (d h : ℕ). flagOf d h (a .job)) (sym (decode-condition r (l .x) (omega arith))) (c .before .word .ensures ∙ sym (decode-holder r (l .x) (omega arith))) in
     (swept-put _ (l .inv .0) (omega arith) v, omega arith, omega arith)
 
 returns : tie.Need-returns Inv-loop μ-loop

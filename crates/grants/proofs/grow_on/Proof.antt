@@ -1,0 +1,126 @@
+-- `grants::grow_on` meets its contract. Assumes nothing.
+use mathlib.Core.Path.{sym, _∙_}
+use native.Mathlib.Omega.{arith}
+use borrow.Author.Needs.{needs}
+use Rattle.state.proofs.Steps.{counted, holds-none, holds-some, fields-fit, grow-fields, grow-11, grow-17, grow-walk}
+use Rattle.record.specs.Layout.{decode}
+use Rattle.steps.proofs.Ways.{whole, state-valid, refuses, by-step}
+use Rattle.grants.proofs.grow_on.Statement.{statement}
+use Rattle.grants.proofs.grow_on.Tie as tie
+
+field-cause-requires : tie.Need-field-cause-requires
+field-cause-requires c κs = search needs
+
+refused-requires : tie.Need-refused-requires
+refused-requires c κs = search needs
+
+same-length : tie.Need-same-length
+same-length c = search needs
+
+returns : tie.Need-returns
+returns c =
+    refuses _ _ (c .before .if1 .taken) (grow-fields _ _ _ _ (c .before .before .field-cause .ensures) (c .before .if1 .taken)) (c .refused .ensures)
+
+nodes-of-requires : tie.Need-nodes-of-requires
+nodes-of-requires c κs = search needs
+
+count-held-requires : tie.Need-count-held-requires
+count-held-requires c κs = (whole _ (c .before .before .before .before .before .before .pre) .0, c .nodes-of .ensures .1)
+
+refused-requires-2 : tie.Need-refused-requires-2
+refused-requires-2 c κs = search needs
+
+same-length-2 : tie.Need-same-length-2
+same-length-2 c = search needs
+
+returns-2 : tie.Need-returns-2
+returns-2 c =
+    let at = c .before .before in
+    let count = at .before in
+    let fields = count .before .before .before in
+    let a = fields .before .before .before .args in
+    refuses _ 11 (λ z. absurd (omega arith))
+    (grow-11 _ _ _ _ (fields .field-cause .ensures) (count .before .before .if1 .left)
+    (holds-none (decode (a .rec .now)) (a .job) _ _ (count .nodes-of .ensures .0) (at .count-held .ensures) (c .before .if2 .taken)))
+    (c .refused2 .ensures)
+
+pow2-requires : tie.Need-pow2-requires
+pow2-requires c κs =
+    let count = c .before .before in
+    let fields = count .before .before .before in
+    let start = fields .before .before .before in
+    let fit = fields-fit _ _ _ _ (sym (count .before .before .if1 .left) ∙ fields .field-cause .ensures) in
+    omega (arith, fit .1, state-valid _ (start .pre) .small)
+
+refused-requires-3 : tie.Need-refused-requires-3
+refused-requires-3 c κs = search needs
+
+same-length-3 : tie.Need-same-length-3
+same-length-3 c = search needs
+
+returns-3 : tie.Need-returns-3
+returns-3 c =
+    let power = c .before .before in
+    let some = power .before in
+    let at = some .before in
+    let count = at .before in
+    let fields = count .before .before .before in
+    let a = fields .before .before .before .args in
+    let e = count .nodes-of .ensures .0 in
+    let q = at .count-held .ensures in
+    refuses _ 17 (λ z. absurd (omega arith))
+    (grow-17 _ _ _ _ (fields .field-cause .ensures) (count .before .before .if1 .left)
+    (holds-some (decode (a .rec .now)) (a .job) _ _ e q (some .if2 .left))
+    (counted (decode (a .rec .now)) (a .job) _ _ e q) (omega (arith, power .pow2 .ensures)))
+    (c .refused3 .ensures)
+
+grant-on-requires : tie.Need-grant-on-requires
+grant-on-requires c κs =
+    let at = c .before .before .before .before in
+    let count = at .before in
+    let fields = count .before .before .before in
+    let start = fields .before .before .before in
+    let held = counted (decode (start .args .rec .now)) (start .args .job) _ _ (count .nodes-of .ensures .0) (at .count-held .ensures) in
+    let fit = fields-fit _ _ _ _ (sym (count .before .before .if1 .left) ∙ fields .field-cause .ensures) in
+    (record { right = start .pre; set = fit .0; counted = held }, fit .1)
+
+same-length-4 : tie.Need-same-length-4
+same-length-4 c = search needs
+
+returns-4 : tie.Need-returns-4
+returns-4 c =
+    let granted = c .before .before in
+    let power = granted .before .before .before in
+    let some = power .before in
+    let at = some .before in
+    let count = at .before in
+    let fields = count .before .before .before in
+    let a = fields .before .before .before .args in
+    let e = count .nodes-of .ensures .0 in
+    let q = at .count-held .ensures in
+    by-step _
+    (grow-walk _ _ _ _ (fields .field-cause .ensures) (count .before .before .if1 .left)
+    (holds-some (decode (a .rec .now)) (a .job) _ _ e q (some .if2 .left))
+    (counted (decode (a .rec .now)) (a .job) _ _ e q) (omega (arith, power .pow2 .ensures)))
+    (granted .grant-on .ensures)
+
+pub grow-on-spec : {M : Type 1} → statement M
+grow-on-spec =
+    tie.close
+    (tie.spec
+    field-cause-requires
+    refused-requires
+    same-length
+    returns
+    nodes-of-requires
+    count-held-requires
+    refused-requires-2
+    same-length-2
+    returns-2
+    pow2-requires
+    refused-requires-3
+    same-length-3
+    returns-3
+    grant-on-requires
+    same-length-4
+    returns-4)
