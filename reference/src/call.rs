@@ -1,5 +1,6 @@
 //! The frame call: document 01, "Six calls and their frames" and "When a
-//! call says no". Each function checks its causes in the table's order.
+//! call says no", and document 02, (e). Each function checks its causes in
+//! the table's order.
 
 use crate::choose::{choose_with, Answer};
 use crate::cube::{self, Nodes};
@@ -38,6 +39,7 @@ fn answer(record: &mut Record, call: Call) -> Reply {
         Call::Relabel => relabel(record),
         Call::Request { job, k, strategy } => request(record, job, k, strategy),
         Call::Release { job } => release(record, job),
+        Call::Grow { job, k, strategy } => grow(record, job, k, strategy),
     }
 }
 
@@ -69,25 +71,57 @@ fn relabel(record: &mut Record) -> Reply {
 }
 
 fn request(record: &mut Record, job: u16, k: u8, strategy: u8) -> Reply {
-    let (n, k) = (record::dimension(record), u32::from(k));
-    if job == 0 {
-        return Reply::refuse(6);
-    }
-    if k > n {
-        return Reply::refuse(7);
-    }
-    if strategy > EXTENDED {
-        return Reply::refuse(9);
+    if let Some(number) = wrong_field(record, job, k, strategy) {
+        return Reply::refuse(number);
     }
     if record::any_holder(record, |holder| holder == job) {
         return Reply::refuse(10);
     }
-    let free = record::free_nodes(record);
-    let nodes = Nodes::new(&record::map(record));
-    match choose_with(strategy, n, k, |label| free[nodes.node(label) as usize % NODES]) {
-        Answer::NoneFree { count } => Reply::Refused { number: 14, tried: count as u16 },
+    match first_free(record, job, k, strategy) {
+        Answer::NoneFree { count } => Reply::none_free(count),
         Answer::Found { low, stars, tried } => grant(record, job, low, stars, tried),
     }
+}
+
+/// The job gets the first member that is free to it, and loses its nodes
+/// outside that: document 02, (e).
+fn grow(record: &mut Record, job: u16, k: u8, strategy: u8) -> Reply {
+    if let Some(number) = wrong_field(record, job, k, strategy) {
+        return Reply::refuse(number);
+    }
+    let held = record::held(record, job);
+    if held == 0 {
+        return Reply::refuse(11);
+    }
+    if 1 << k <= held {
+        return Reply::refuse(17);
+    }
+    match first_free(record, job, k, strategy) {
+        Answer::NoneFree { count } => Reply::none_free(count),
+        Answer::Found { low, stars, tried } => {
+            record::release(record, job);
+            grant(record, job, low, stars, tried)
+        }
+    }
+}
+
+/// Which of 6, 7 and 9 the fields of a request or a growth meet first.
+fn wrong_field(record: &Record, job: u16, k: u8, strategy: u8) -> Option<u16> {
+    if job == 0 {
+        return Some(6);
+    }
+    if u32::from(k) > record::dimension(record) {
+        return Some(7);
+    }
+    (strategy > EXTENDED).then_some(9)
+}
+
+/// The first member of the family that is free to the job, by label.
+fn first_free(record: &Record, job: u16, k: u8, strategy: u8) -> Answer {
+    let free = record::free_nodes(record, job);
+    let nodes = Nodes::new(&record::map(record));
+    let is_free = |label| free[nodes.node(label) as usize % NODES];
+    choose_with(strategy, record::dimension(record), k.into(), is_free)
 }
 
 /// Makes the job the holder of a member, which is given by label.

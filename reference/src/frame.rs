@@ -1,6 +1,7 @@
-//! Frames and replies: document 01, "Six calls and their frames".
+//! Frames and replies: document 01, "Six calls and their frames", and the
+//! growth of document 02, (e).
 
-/// One of the six calls with its fields.
+/// A call with its fields.
 #[derive(Clone, Copy, Debug, PartialEq, Eq)]
 pub enum Call {
     Good { node: u16 },
@@ -9,6 +10,7 @@ pub enum Call {
     Relabel,
     Request { job: u16, k: u8, strategy: u8 },
     Release { job: u16 },
+    Grow { job: u16, k: u8, strategy: u8 },
 }
 
 /// The field of two bytes at a place, little-endian.
@@ -24,7 +26,7 @@ pub fn read(frame: &[u8]) -> Result<Call, u16> {
     let kind = field(frame, 2);
     let size = match kind {
         0x0101 | 0x0102 | 0x0103 | 0x0202 => 6,
-        0x0201 => 8,
+        0x0201 | 0x0204 => 8,
         0x0203 => 4,
         _ => return Err(4),
     };
@@ -37,6 +39,7 @@ pub fn read(frame: &[u8]) -> Result<Call, u16> {
         0x0103 => Call::Repaired { node: field(frame, 4) },
         0x0202 => Call::Release { job: field(frame, 4) },
         0x0201 => Call::Request { job: field(frame, 4), k: frame[6], strategy: frame[7] },
+        0x0204 => Call::Grow { job: field(frame, 4), k: frame[6], strategy: frame[7] },
         _ => Call::Relabel,
     })
 }
@@ -53,6 +56,11 @@ impl Reply {
     /// A refusal other than 14.
     pub(crate) fn refuse(number: u16) -> Reply {
         Reply::Refused { number, tried: 0 }
+    }
+
+    /// Refusal 14, with the family's whole count.
+    pub(crate) fn none_free(count: u32) -> Reply {
+        Reply::Refused { number: 14, tried: count as u16 }
     }
 
     /// Writes the reply's frame; bytes past it keep their values.

@@ -127,7 +127,7 @@ fn first(frame: &[u8], record: &mut Record) -> Result<u16, u16> {
     Ok(n)
 }
 
-/// A later frame. A set-up isn't one of the six kinds here.
+/// A later frame. A set-up's kind is no call's.
 fn later(frame: &[u8], record: &mut Record) -> Reply {
     let mut bytes = [0; 12];
     call(record, frame, &mut bytes);

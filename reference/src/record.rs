@@ -118,12 +118,24 @@ pub fn any_holder(record: &Record, is_such: impl Fn(u16) -> bool) -> bool {
     holders.fold(false, |any, bytes| any | is_such(u16::from_le_bytes([bytes[0], bytes[1]])))
 }
 
-/// Which nodes are free: good and unheld.
-pub fn free_nodes(record: &Record) -> [bool; NODES] {
+/// How many nodes a job holds, good or not.
+pub fn held(record: &Record, job: u16) -> u16 {
+    let holders = holders(record).chunks_exact(2);
+    holders.fold(0, |held, bytes| held + u16::from(u16::from_le_bytes([bytes[0], bytes[1]]) == job))
+}
+
+/// Whether a node is free to the job that asks: it is good, and unheld or the
+/// job's own.
+fn is_free(job: u16, condition: u8, holder: u16) -> bool {
+    condition == GOOD && (holder == 0 || holder == job)
+}
+
+/// Which nodes are free to the job that asks.
+pub fn free_nodes(record: &Record, job: u16) -> [bool; NODES] {
     let mut free = [false; NODES];
     let nodes = conditions(record).iter().zip(holders(record).chunks_exact(2));
     for (free, (condition, holder)) in free.iter_mut().zip(nodes) {
-        *free = *condition == GOOD && holder[0] | holder[1] == 0;
+        *free = is_free(job, *condition, u16::from_le_bytes([holder[0], holder[1]]));
     }
     free
 }

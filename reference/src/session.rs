@@ -111,6 +111,10 @@ fn frame_of(call: Call) -> Vec<u8> {
             frame(0x0201, &[low, high, k, strategy])
         }
         Call::Release { job } => frame(0x0202, &job.to_le_bytes()),
+        Call::Grow { job, k, strategy } => {
+            let [low, high] = job.to_le_bytes();
+            frame(0x0204, &[low, high, k, strategy])
+        }
     }
 }
 

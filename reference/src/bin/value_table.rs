@@ -22,6 +22,7 @@ fn print_call(out: &mut impl Write, place: u32, record: &mut Record, call: Call)
             write!(out, "{place} request {job} {k} {strategy}; ")?
         }
         Call::Release { job } => write!(out, "{place} release {job}; ")?,
+        Call::Grow { job, k, strategy } => write!(out, "{place} grow {job} {k} {strategy}; ")?,
     }
     let given = make(record, call);
     match given.reply {

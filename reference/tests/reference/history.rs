@@ -86,7 +86,7 @@ impl History {
             return (number, Some(vec![0x8002, number, 0]));
         }
         match at(frame, 2) {
-            0x0201 => self.request(frame),
+            0x0201 | 0x0204 => self.ask(frame),
             0x0202 => (0, Some(vec![0x8003, self.release(at(frame, 4))])),
             0x0203 => (0, Some(vec![0x8003, self.relabel()])),
             kind => {
@@ -98,15 +98,17 @@ impl History {
         }
     }
 
-    /// The first of the causes 3 to 13 that the frame meets.
+    /// The first of the causes but 14 that the frame meets, from 3 on.
     fn cause(&self, frame: &[u8]) -> Option<u16> {
         if frame.len() < 4 || usize::from(at(frame, 0)) != frame.len() {
             return Some(3);
         }
-        let sizes = [(0x0101, 6), (0x0102, 6), (0x0103, 6), (0x0203, 4), (0x0201, 8), (0x0202, 6)];
         let kind = at(frame, 2);
-        let Some((_, size)) = sizes.into_iter().find(|row| row.0 == kind) else {
-            return Some(4);
+        let size = match kind {
+            0x0101..=0x0103 | 0x0202 => 6,
+            0x0201 | 0x0204 => 8,
+            0x0203 => 4,
+            _ => return Some(4),
         };
         if frame.len() != size {
             return Some(5);
@@ -115,15 +117,18 @@ impl History {
         let (job, k, strategy) = (at(&fields, 0), fields[2], fields[3]);
         let condition = self.condition.get(usize::from(job)); // a report's node
         let report = kind < 0x0200;
-        let holds = self.holder.contains(&job);
-        let (request, release, relabel) = (kind == 0x0201, kind == 0x0202, kind == 0x0203);
+        let held = self.holder.iter().filter(|holder| **holder == job).count();
+        let (request, release) = (kind == 0x0201, kind == 0x0202);
+        let (relabel, grow) = (kind == 0x0203, kind == 0x0204);
+        let wide = u32::from(k) > self.n;
         let causes = [
-            (6, (request || release) && job == 0),
-            (7, request && u32::from(k) > self.n),
+            (6, (request || release || grow) && job == 0),
+            (7, (request || grow) && wide),
             (8, report && condition.is_none()),
-            (9, request && strategy > 3),
-            (10, request && holds),
-            (11, release && !holds),
+            (9, (request || grow) && strategy > 3),
+            (10, request && held != 0),
+            (11, (release || grow) && held == 0),
+            (17, grow && !wide && 1 << k <= held),
             (12, kind == 0x0101 && condition == Some(&2)),
             (12, kind == 0x0103 && condition != Some(&2)),
             (13, relabel && self.holder.iter().any(|job| *job != 0)),
@@ -131,11 +136,14 @@ impl History {
         causes.iter().find(|row| row.1).map(|row| row.0)
     }
 
-    fn request(&mut self, frame: &[u8]) -> (u16, Option<Words>) {
+    /// A request or a growth: to the asking job its own good nodes are free,
+    /// and those outside its member are lost. Who requests holds none.
+    fn ask(&mut self, frame: &[u8]) -> (u16, Option<Words>) {
         let (job, k, strategy) = (at(frame, 4), frame[6], frame[7]);
         let mut free = vec![false; 1 << self.n];
         for node in 0..1 << self.n {
-            free[self.label(node)] = self.condition[node] == 1 && self.holder[node] == 0;
+            let others = self.holder[node] != 0 && self.holder[node] != job;
+            free[self.label(node)] = self.condition[node] == 1 && !others;
         }
         let members = family(strategy, self.n, k.into());
         let Some(place) = members.iter().position(|m| is_free(m.low, m.stars, &free)) else {
@@ -144,6 +152,7 @@ impl History {
         let (low, stars) = (members[place].low as usize, members[place].stars as usize);
         let inside = |node: &usize| self.label(*node) & !stars == low;
         let nodes: Vec<usize> = (0..1 << self.n).filter(inside).collect();
+        self.release(job);
         nodes.iter().for_each(|node| self.holder[*node] = job);
         let star_bits = nodes.iter().fold(0, |bits, node| bits | (node ^ nodes[0]));
         (0, Some(vec![0x8001, job, nodes[0] as u16, star_bits as u16, place as u16 + 1]))

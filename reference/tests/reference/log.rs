@@ -148,6 +148,16 @@ fn a_later_refusal_does_not_stop() {
 }
 
 #[test]
+fn a_growth_prints_as_a_grant() {
+    let asked = [request(5, 0, GRAY), grow(5, 1, TREE), grow(5, 1, TREE), grow(6, 1, TREE)];
+    let input = [setup_frame(1), good(0), good(1), asked.concat()].concat();
+    let output = "1 setup 1\n2 done 0\n3 done 0\n4 granted 5 0 0 1\n5 granted 5 0 1 1\n\
+                  6 refused 17 0\n7 refused 11 0\n\
+                  total 7 setup 1 done 2 granted 2 refused 2\n";
+    assert_eq!(printed(&input), output);
+}
+
+#[test]
 fn the_longest_frame_is_read_whole() {
     let longest = frame(0x0101, &vec![0; 65531]);
     assert_eq!(longest[..2], [0xff, 0xff]);

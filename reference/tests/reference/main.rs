@@ -2,6 +2,7 @@
 
 mod families;
 mod generator;
+mod growth;
 mod history;
 mod log;
 mod records;

@@ -5,18 +5,6 @@ use cube_reference::call;
 
 use crate::support::*;
 
-/// The call is refused: the number is returned, the record stays, the reply
-/// gets the refused frame of eight bytes and keeps the bytes after it.
-fn refuses(cube: &Cube, frame: &[u8], number: u8, tried: u16) {
-    let mut record = cube.record.clone();
-    let mut reply = [0xcc; 20];
-    assert_eq!(call(&mut record, frame, &mut reply), number.into(), "frame {frame:x?}");
-    assert!(record == cube.record, "record changed by {frame:x?}");
-    let [low, high] = two(tried);
-    assert_eq!(reply[..8], [8, 0, 0x02, 0x80, number, 0, low, high]);
-    assert_eq!(reply[8..], [0xcc; 12]);
-}
-
 /// A 4-cube: 0 and 1 held by job 7, 2 faulty, 3 unconfirmed, the others good.
 fn busy() -> Cube {
     let mut cube = Cube::with_good(4, |node| node != 2 && node != 3);
@@ -25,13 +13,14 @@ fn busy() -> Cube {
     cube
 }
 
-fn six_kinds() -> [Vec<u8>; 6] {
-    [good(4), fault(4), repaired(2), relabel(), request(1, 0, BUDDY), release(7)]
+fn each_kind() -> [Vec<u8>; 7] {
+    let (ask, more) = (request(1, 0, BUDDY), grow(7, 2, BUDDY));
+    [good(4), fault(4), repaired(2), relabel(), ask, release(7), more]
 }
 
 #[test]
 fn cause_2_reply_under_12_bytes() {
-    for frame in six_kinds() {
+    for frame in each_kind() {
         for length in [0, 6, 8, 11] {
             let cube = busy();
             let mut record = cube.record.clone();
@@ -49,7 +38,7 @@ fn cause_3_length() {
     for frame in [&[][..], &[4], &[4, 0], &[3, 0, 3]] {
         refuses(&cube, frame, 3, 0);
     }
-    for frame in six_kinds() {
+    for frame in each_kind() {
         refuses(&cube, &frame[..frame.len() - 1], 3, 0);
         refuses(&cube, &[&frame[..], &[0]].concat(), 3, 0);
         let mut longer = frame.clone();
@@ -61,7 +50,7 @@ fn cause_3_length() {
 #[test]
 fn cause_4_kind() {
     let cube = busy();
-    for kind in [0, 1, 0x0100, 0x0104, 0x0200, 0x0204, 0x0301, 0x8001, 0x8002, 0x8003, 0xffff] {
+    for kind in [0, 1, 0x0100, 0x0104, 0x0200, 0x0205, 0x0301, 0x8001, 0x8002, 0x8003, 0xffff] {
         for size in [0, 2, 4] {
             refuses(&cube, &frame(kind, &[0; 4][..size]), 4, 0);
         }
@@ -71,7 +60,7 @@ fn cause_4_kind() {
 #[test]
 fn cause_5_size() {
     let cube = busy();
-    for right in six_kinds() {
+    for right in each_kind() {
         let kind = at(&right, 2);
         for size in (4..20).filter(|size| *size != right.len()) {
             refuses(&cube, &frame(kind, &[1; 16][..size - 4]), 5, 0);
@@ -84,6 +73,7 @@ fn cause_6_job_0() {
     let cube = busy();
     refuses(&cube, &request(0, 0, BUDDY), 6, 0);
     refuses(&cube, &release(0), 6, 0);
+    refuses(&cube, &grow(0, 2, BUDDY), 6, 0);
 }
 
 #[test]
@@ -187,14 +177,15 @@ fn the_first_cause_answers() {
     refuses(&cube, &request(7, 4, BUDDY), 10, 0); // 10 and 14
 }
 
-/// 1 answers before 2, and 2 before 3 to 14.
+/// 1 answers before 2, and 2 before the others.
 #[test]
 fn record_and_reply_answer_before_the_frame() {
     let mut damaged = busy();
     damaged.record[15] = 1;
     for (cube, number) in [(damaged, 1), (busy(), 2)] {
-        let wrong = [vec![9], frame(0x0999, &[]), request(0, 9, 9), request(7, 4, 0), relabel()];
-        for frame in wrong {
+        let asked = [request(0, 9, 9), request(7, 4, 0), grow(7, 1, 0), grow(8, 1, 0)];
+        let wrong = [vec![9], frame(0x0999, &[]), relabel()];
+        for frame in wrong.into_iter().chain(asked) {
             let mut record = cube.record.clone();
             let mut reply = [0xcc; 11];
             assert_eq!(call(&mut record, &frame, &mut reply), number);

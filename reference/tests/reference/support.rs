@@ -57,6 +57,11 @@ pub fn release(job: u16) -> Vec<u8> {
     frame(0x0202, &two(job))
 }
 
+pub fn grow(job: u16, k: u8, strategy: u8) -> Vec<u8> {
+    let [low, high] = two(job);
+    frame(0x0204, &[low, high, k, strategy])
+}
+
 pub fn granted(job: u16, lowest: u16, stars: u16, tried: u16) -> Got {
     Got::Granted { job, lowest, stars, tried }
 }
@@ -127,6 +132,18 @@ impl Cube {
     pub fn held_by(&self, job: u16) -> Vec<u16> {
         (0..1024).filter(|node| at(&self.record, 16 + 2 * usize::from(*node)) == job).collect()
     }
+}
+
+/// The call is refused: the number is returned, the record stays, the reply
+/// gets the refused frame of eight bytes and keeps the bytes after it.
+pub fn refuses(cube: &Cube, frame: &[u8], number: u8, tried: u16) {
+    let mut record = cube.record.clone();
+    let mut reply = [0xcc; 20];
+    assert_eq!(call(&mut record, frame, &mut reply), number.into(), "frame {frame:x?}");
+    assert!(record == cube.record, "record changed by {frame:x?}");
+    let [low, high] = two(tried);
+    assert_eq!(reply[..8], [8, 0, 0x02, 0x80, number, 0, low, high]);
+    assert_eq!(reply[8..], [0xcc; 12]);
 }
 
 fn read(reply: &[u8]) -> Got {
