@@ -1,8 +1,7 @@
 //! What is fed: frames, reply buffers and records, right and wrong.
 
-use cube_reference::gen;
 use cube_reference::health::Area;
-use cube_reference::record::{is_valid, Record, GOOD, SIZE};
+use cube_reference::record::{GOOD, SIZE};
 use cube_reference::rng::Rng;
 
 /// Where a record's conditions are.
@@ -12,19 +11,7 @@ pub fn bytes(rng: &mut Rng, count: usize) -> Vec<u8> {
     (0..count).map(|_| rng.number() as u8).collect()
 }
 
-/// The frames of a random list for a record; for a damaged one they are those
-/// for a fresh cube of dimension n.
-pub fn frames(rng: &mut Rng, seed: u64, n: u32, record: &[u8]) -> Vec<Vec<u8>> {
-    let mut cube = [0; SIZE];
-    assert_eq!(cube_reference::setup(&mut cube, n), 0);
-    match <&Record>::try_from(record) {
-        Ok(record) if is_valid(record) => cube = *record,
-        _ => {}
-    }
-    gen::list(seed, 60 + u64::from(rng.below(400)), &cube)
-}
-
-/// A frame from the log as it is, or cut, lengthened or noise.
+/// A frame of the list as it is, or cut, lengthened or noise.
 pub fn bent(rng: &mut Rng, frame: &[u8]) -> Vec<u8> {
     match rng.below(80) {
         0 => frame[..rng.below(frame.len() as u32 + 1) as usize].to_vec(),

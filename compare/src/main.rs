@@ -7,6 +7,7 @@ mod pair;
 mod seen;
 
 use cube_reference::drawn::List;
+use cube_reference::gen::Log;
 use cube_reference::record::SIZE;
 use cube_reference::rng::Rng;
 
@@ -48,10 +49,11 @@ fn list(seed: u64, seen: &mut Seen) -> Result<u64, String> {
     let n = (seed % 11) as u32;
     let rng = &mut Rng::new(seed ^ 0x5ca1_ab1e);
     let mut pair = start(rng, n)?;
-    let frames = input::frames(rng, seed, n, &pair.reference);
+    let count = 60 + u64::from(rng.below(400));
+    let mut log = Log::new(seed, count, &pair.cube(n));
     let mut list = List::default();
-    for (place, frame) in frames.iter().enumerate() {
-        let frame = input::bent(rng, frame);
+    for place in 0..count {
+        let frame = input::bent(rng, &log.next(&pair.cube(n)));
         let reply = input::reply(rng);
         let number = pair.call(&frame, &reply).map_err(|what| {
             format!(
@@ -66,7 +68,7 @@ fn list(seed: u64, seen: &mut Seen) -> Result<u64, String> {
         }
     }
     seen.drawn[n as usize] += list.drawn;
-    Ok(frames.len() as u64)
+    Ok(count)
 }
 
 fn start(rng: &mut Rng, n: u32) -> Result<Pair, String> {

@@ -2,6 +2,8 @@
 
 use cube_proved as proved;
 use cube_reference as reference;
+use reference::record::{is_valid, Record};
+use reference::session::fresh;
 
 pub struct Pair {
     pub proved: Vec<u8>,
@@ -14,6 +16,15 @@ pub type Outcome = Result<u32, String>;
 impl Pair {
     pub fn new(record: Vec<u8>) -> Pair {
         Pair { reference: record.clone(), proved: record }
+    }
+
+    /// The record that calls are drawn for: this one, or a fresh one of
+    /// dimension n in place of a damaged one.
+    pub fn cube(&self, n: u32) -> Record {
+        match self.reference[..].try_into() {
+            Ok(record) if is_valid(&record) => record,
+            _ => fresh(n),
+        }
     }
 
     pub fn setup(&mut self, n: u32) -> Outcome {

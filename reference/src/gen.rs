@@ -1,14 +1,14 @@
 //! The writer of random logs. It leans to document 01's edges and keeps a
 //! cube at work: many nodes good, few jobs, those that aren't good close by.
 
-use std::collections::{BTreeSet, VecDeque};
+use std::collections::VecDeque;
 use std::io::{self, Write};
 
-use crate::frame::{self, Call};
-use crate::health::Health;
+use crate::call::call;
+use crate::health::{faulty, is_silent, is_wild, Area};
 use crate::log::SETUP;
 use crate::noise::{self, frame, report, Frame};
-use crate::record::{self, setup, Record, FAULTY, GOOD, SIZE, UNCONFIRMED};
+use crate::record::{self, setup, Record, SIZE};
 use crate::rng::Rng;
 
 /// Jobs that come beside the small ones: the last, and a byte full or empty.
@@ -20,34 +20,30 @@ pub fn write_log(seed: u64, frames: u64, mut output: impl Write) -> io::Result<(
     let n = (seed % 11) as u16;
     let mut record = [0; SIZE];
     setup(&mut record, n.into());
-    let mut log = Log::new(seed, frames, &record);
-    for place in 1..=frames {
-        let frame = match place {
-            1 => frame(SETUP, &n.to_le_bytes()),
-            _ if place == frames => log.last(),
-            _ => log.next(),
-        };
+    let mut log = Log::new(seed, frames.saturating_sub(1), &record);
+    if frames != 0 {
+        output.write_all(&frame(SETUP, &n.to_le_bytes()))?;
+    }
+    for _ in 1..frames {
+        let frame = log.next(&record);
+        call(&mut record, &frame, &mut [0; 12]);
         output.write_all(&frame)?;
     }
     output.flush()
 }
 
-/// The frames of a random list of calls on a record that passes refusal 1.
-pub fn list(seed: u64, count: u64, record: &Record) -> Vec<Frame> {
-    let mut log = Log::new(seed, count, record);
-    (1..=count).map(|place| if place == count { log.last() } else { log.next() }).collect()
-}
-
-struct Log {
+/// A random list of calls, each drawn for the record that those before it
+/// left. The record passes refusal 1.
+pub struct Log {
     rng: Rng,
     n: u32,
+    /// Frames that are still to come.
+    left: u64,
     /// Jobs 1 to `jobs` do most of the work.
     jobs: u32,
-    /// Jobs that may hold nodes.
-    asked: BTreeSet<u16>,
     /// The cube is drained and relabelled once in so many times.
     drained: u32,
-    health: Health,
+    area: Area,
     /// At most so many nodes are made faulty one by one.
     faulty_most: usize,
     /// Frames that are to come in this order.
@@ -55,63 +51,44 @@ struct Log {
 }
 
 impl Log {
-    fn new(seed: u64, frames: u64, record: &Record) -> Log {
-        let n = record::dimension(record);
+    /// A list of `left` frames.
+    pub fn new(seed: u64, left: u64, record: &Record) -> Log {
+        let (n, conditions) = (record::dimension(record), record::conditions(record));
         let mut rng = Rng::new(seed);
         let jobs = 1 + rng.below(24.min(2 << n));
-        let holders = (0..1 << n).map(|node| record::holder(record, node));
-        let asked = holders.filter(|job| *job != 0).collect();
         let drained = rng.pick(&[12, 50]);
         let faulty_most = rng.below(8) as usize;
-        let health = Health::new(&mut rng, record::conditions(record));
-        let mut log =
-            Log { rng, n, jobs, asked, drained, health, faulty_most, plan: VecDeque::new() };
-        if log.health.is_silent() || (log.health.is_wild() && log.rng.one_in(2)) {
-            log.wake(frames);
+        let area = Area::of(&mut rng, conditions);
+        let mut log = Log { rng, n, left, jobs, drained, area, faulty_most, plan: VecDeque::new() };
+        if is_silent(conditions) || (is_wild(conditions) && log.rng.one_in(2)) {
+            log.wake();
         }
         if !log.rng.one_in(4) {
-            log.drain();
+            log.drain(record);
         }
         log
     }
 
-    fn next(&mut self) -> Frame {
-        let planned = if self.rng.one_in(16) { None } else { self.plan.pop_front() };
-        let frame = planned.unwrap_or_else(|| self.any());
-        if let Ok(call) = frame::read(&frame) {
-            self.note(call);
-        }
-        frame
-    }
-
-    fn note(&mut self, call: Call) {
-        match call {
-            Call::Good { node } => self.health.note(node, GOOD),
-            Call::Fault { node } => self.health.note(node, FAULTY),
-            Call::Repaired { node } => self.health.note(node, UNCONFIRMED),
-            Call::Request { job, .. } if job != 0 => drop(self.asked.insert(job)),
-            Call::Release { job } => drop(self.asked.remove(&job)),
-            _ => {}
-        }
-    }
-
-    fn last(&mut self) -> Frame {
-        if self.rng.one_in(4) {
+    /// The next frame. One list in four has a broken frame as its last.
+    pub fn next(&mut self, record: &Record) -> Frame {
+        self.left = self.left.saturating_sub(1);
+        if self.left == 0 && self.rng.one_in(4) {
             return noise::broken(&mut self.rng);
         }
-        self.next()
+        let planned = if self.rng.one_in(16) { None } else { self.plan.pop_front() };
+        planned.unwrap_or_else(|| self.any(record))
     }
 
-    fn any(&mut self) -> Frame {
+    fn any(&mut self, record: &Record) -> Frame {
         if self.rng.one_in(self.drained) {
-            self.drain();
+            self.drain(record);
             return self.release();
         }
         match self.rng.below(98) {
             0..42 => self.request(),
             42..66 => self.release(),
             66..76 => self.good(),
-            76..84 => self.fault_or_repair(),
+            76..84 => self.fault_or_repair(record),
             84..86 => report(0x0103, self.rng.below(1 << self.n)),
             86..89 => frame(0x0203, &[]),
             89..91 => self.later_setup(),
@@ -122,10 +99,10 @@ impl Log {
     /// Plans 'good' for every node if that leaves a third of the frames,
     /// otherwise for neighbours, and mostly leaves some out, in the area alone
     /// or anywhere. A relabel of the cube as it is comes first at times.
-    fn wake(&mut self, frames: u64) {
+    fn wake(&mut self) {
         let nodes = 1 << self.n;
-        let whole = u64::from(nodes) <= frames * 2 / 3;
-        let count = if whole { nodes } else { (frames / 2).min(nodes.into()) as u32 };
+        let whole = u64::from(nodes) <= self.left * 2 / 3;
+        let count = if whole { nodes } else { (self.left / 2).min(nodes.into()) as u32 };
         let step = if whole { self.rng.below(nodes) | 1 } else { 1 };
         let start = self.rng.below(nodes) & !15;
         let left_out = self.rng.pick(&[(0, 0), (2, 0), (2, 0), (2, 0), (64, 64), (8, 8), (2, 2)]);
@@ -134,7 +111,7 @@ impl Log {
         }
         for i in 0..count {
             let node = (start + i * step) % nodes;
-            if !self.health.area.hits(&mut self.rng, node, left_out) {
+            if !self.area.hits(&mut self.rng, node, left_out) {
                 self.plan.push_back(report(0x0101, node));
             }
         }
@@ -188,12 +165,12 @@ impl Log {
 
     /// A fault while few nodes are faulty, otherwise a repair; a repaired
     /// node is mostly reported good next.
-    fn fault_or_repair(&mut self) -> Frame {
-        let faulty = self.health.faulty();
+    fn fault_or_repair(&mut self, record: &Record) -> Frame {
+        let faulty = faulty(record::conditions(record));
         if faulty.len() < self.faulty_most && !self.rng.one_in(3) {
             let node = match self.rng.below(16) {
                 0 => self.node(),
-                _ => self.health.area.node(&mut self.rng),
+                _ => self.area.node(&mut self.rng),
             };
             return report(0x0102, node);
         }
@@ -208,16 +185,12 @@ impl Log {
         report(0x0103, node)
     }
 
-    /// Plans reports, a release by each job that may hold nodes, and a
-    /// relabel. What a refused release leaves held is tried again at times.
-    fn drain(&mut self) {
-        let reports = self.health.settle(&mut self.rng);
+    /// Plans reports, a release by each job that holds nodes, and a relabel.
+    fn drain(&mut self, record: &Record) {
+        let reports = self.area.settle(&mut self.rng, record::conditions(record));
         self.plan.extend(reports);
-        for job in std::mem::take(&mut self.asked) {
+        for job in record::jobs(record) {
             self.plan.push_back(frame(0x0202, &job.to_le_bytes()));
-        }
-        if self.rng.one_in(8) {
-            self.asked = (1..=self.jobs as u16).chain(EDGE_JOBS).collect();
         }
         self.plan.push_back(frame(0x0203, &[]));
     }

@@ -118,6 +118,17 @@ pub fn any_holder(record: &Record, is_such: impl Fn(u16) -> bool) -> bool {
     holders.fold(false, |any, bytes| any | is_such(u16::from_le_bytes([bytes[0], bytes[1]])))
 }
 
+/// The jobs that hold nodes, ascending.
+pub fn jobs(record: &Record) -> Vec<u16> {
+    let holders = holders(record).chunks_exact(2);
+    let mut jobs: Vec<u16> =
+        holders.map(|bytes| u16::from_le_bytes([bytes[0], bytes[1]])).collect();
+    jobs.sort_unstable();
+    jobs.dedup();
+    jobs.retain(|job| *job != 0);
+    jobs
+}
+
 /// How many nodes a job holds, good or not.
 pub fn held(record: &Record, job: u16) -> u16 {
     let holders = holders(record).chunks_exact(2);

@@ -1,6 +1,6 @@
 //! Calls compared with a plain account of them, as document 01's history is.
 
-use cube_reference::gen::list;
+use cube_reference::gen::Log;
 use cube_reference::rng::Rng;
 use cube_reference::{call, family};
 
@@ -190,8 +190,9 @@ fn is_free(low: u32, stars: u32, free: &[bool]) -> bool {
 /// compares the number, the reply and the whole record after each.
 fn compare(history: &mut History, seed: u64, count: u64, rng: &mut Rng) {
     let mut record = history.record();
-    let list = list(seed, count, record[..].try_into().unwrap());
-    for frame in &list {
+    let mut log = Log::new(seed, count, record[..].try_into().unwrap());
+    for _ in 0..count {
+        let frame = &log.next(record[..].try_into().unwrap());
         let length = rng.pick(&[12, 12, 12, 12, 12, 12, 13, 40, 11, 0]);
         let (number, words) = history.call(frame, length);
         let mut expected = vec![0xcc; length];
