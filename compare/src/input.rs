@@ -39,7 +39,7 @@ pub fn bent(rng: &mut Rng, frame: &[u8]) -> Vec<u8> {
 
 /// A known kind and any size from 4 to 20 with a right length field.
 fn sized(rng: &mut Rng) -> Vec<u8> {
-    let kind: u16 = rng.pick(&[0x0101, 0x0102, 0x0103, 0x0201, 0x0202, 0x0203]);
+    let kind: u16 = rng.pick(&[0x0101, 0x0102, 0x0103, 0x0201, 0x0202, 0x0203, 0x0204]);
     let length = 4 + rng.below(17) as u16;
     let fields = bytes(rng, usize::from(length) - 4);
     [&length.to_le_bytes(), &kind.to_le_bytes(), &fields[..]].concat()

@@ -8,13 +8,13 @@ mod seen;
 
 use cube_reference::drawn::List;
 use cube_reference::gen::Log;
-use cube_reference::record::SIZE;
+use cube_reference::record::{dimension, SIZE};
 use cube_reference::rng::Rng;
 
 use pair::Pair;
 use seen::Seen;
 
-const CALLS: u64 = 200_000;
+const CALLS: u64 = 300_000;
 const SEED: u64 = 1;
 
 fn main() {
@@ -53,7 +53,8 @@ fn list(seed: u64, seen: &mut Seen) -> Result<u64, String> {
     let mut log = Log::new(seed, count, &pair.cube(n));
     let mut list = List::default();
     for place in 0..count {
-        let frame = input::bent(rng, &log.next(&pair.cube(n)));
+        let before = pair.cube(n);
+        let frame = input::bent(rng, &log.next(&before));
         let reply = input::reply(rng);
         let number = pair.call(&frame, &reply).map_err(|what| {
             format!(
@@ -62,12 +63,10 @@ fn list(seed: u64, seen: &mut Seen) -> Result<u64, String> {
                 reply.len()
             )
         })?;
-        seen.numbers[number as usize] += 1;
-        if let (0, Ok(record)) = (number, pair.reference[..].try_into()) {
-            list.add(&frame, record);
-        }
+        seen.add(&frame, number);
+        list.add(&frame, number, &before, &pair.cube(n));
     }
-    seen.drawn[n as usize] += list.drawn;
+    seen.drawn[dimension(&pair.cube(n)) as usize] += list.drawn;
     Ok(count)
 }
 

@@ -3,27 +3,62 @@
 use std::fmt::{self, Display};
 
 use cube_reference::drawn::Drawn;
+use cube_reference::growths::SORTS;
 
 /// So often at least is each number to be met.
 const NUMBER: u64 = 20;
+
+/// The numbers that calls can meet, and those that growths can.
+const NUMBERS: [usize; 16] = [0, 1, 2, 3, 4, 5, 6, 7, 8, 9, 10, 11, 12, 13, 14, 17];
+const OF_GROWTHS: [usize; 11] = [0, 1, 2, 3, 5, 6, 7, 9, 11, 14, 17];
 
 /// So often at least is each sort of relabel and grant to come, those by
 /// silent and faulty nodes at every n from 2.
 const RELABEL: u64 = 10;
 
+/// So often at least is each sort of growth to come at every n where it can.
+const GROWTH: u64 = 5;
+
 #[derive(Default)]
 pub struct Seen {
-    /// Calls by the number returned.
-    pub numbers: [u64; 15],
+    /// Calls by the number returned, and of these the frames of a growth's kind.
+    numbers: [u64; 18],
+    growths: [u64; 18],
     pub drawn: [Drawn; 11],
 }
 
 impl Seen {
+    pub fn add(&mut self, frame: &[u8], number: u32) {
+        self.numbers[number as usize] += 1;
+        let is_growth = frame.get(2..4) == Some(&[0x04, 0x02]);
+        self.growths[number as usize] += u64::from(is_growth);
+    }
+
     /// What came too seldom, in words.
     pub fn rare(&self) -> Option<String> {
-        if let Some(number) = self.numbers.iter().position(|count| *count < NUMBER) {
-            return Some(format!("number {number} was met under {NUMBER} times"));
+        self.rare_number().or_else(|| self.rare_relabel()).or_else(|| self.rare_growth())
+    }
+
+    fn rare_number(&self) -> Option<String> {
+        let by_any = NUMBERS.into_iter().find(|number| self.numbers[*number] < NUMBER);
+        let by_growth = || OF_GROWTHS.into_iter().find(|number| self.growths[*number] < NUMBER);
+        let told = |number| format!("number {number} was met under {NUMBER} times");
+        by_any.map(told).or_else(|| by_growth().map(|number| told(number) + " by growths"))
+    }
+
+    fn rare_growth(&self) -> Option<String> {
+        for (n, drawn) in self.drawn.iter().enumerate() {
+            let sorts = SORTS.iter().zip(drawn.growths.0).filter(|((_, least), _)| n >= *least);
+            if let Some(((sort, _), count)) = sorts.min_by_key(|(_, count)| *count) {
+                if count < GROWTH {
+                    return Some(format!("at n {n} growths came {count} times {sort}"));
+                }
+            }
         }
+        None
+    }
+
+    fn rare_relabel(&self) -> Option<String> {
         let sum = self.sum();
         if sum.empty.min(sum.all) < RELABEL {
             return Some(format!("relabels with D empty or all n came under {RELABEL} times"));
@@ -46,6 +81,11 @@ impl Display for Seen {
         let sum = self.sum();
         write!(to, "by number {:?}; relabels with D empty {}, ", self.numbers, sum.empty)?;
         write!(to, "all n {}, between {}, of these {} by ", sum.all, sum.between, sum.mixed)?;
-        write!(to, "silent and faulty nodes together, then {} grants", sum.after_mixed)
+        write!(to, "silent and faulty nodes together, then {} grants; ", sum.after_mixed)?;
+        write!(to, "growths by number {:?}", self.growths)?;
+        for ((sort, _), count) in SORTS.iter().zip(sum.growths.0) {
+            write!(to, ", {count} {sort}")?;
+        }
+        Ok(())
     }
 }

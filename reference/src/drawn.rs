@@ -1,10 +1,11 @@
-//! What random lists of calls draw: the D of accepted relabels, and grants by
-//! the maps that these set.
+//! What random lists of calls draw: the D of accepted relabels, grants by the
+//! maps that these set, and growths.
 
 use std::ops::AddAssign;
 
 use crate::cube::{relabel, IDENTITY};
 use crate::frame::{self, Call};
+use crate::growths::Growths;
 use crate::record::{self, Record, FAULTY, GOOD, UNCONFIRMED};
 
 /// Counts for one n.
@@ -21,6 +22,7 @@ pub struct Drawn {
     pub moved: u64,
     /// Those of `moved` where such a mixed relabel set the map.
     pub after_mixed: u64,
+    pub growths: Growths,
 }
 
 impl AddAssign for Drawn {
@@ -31,6 +33,7 @@ impl AddAssign for Drawn {
         self.mixed += other.mixed;
         self.moved += other.moved;
         self.after_mixed += other.after_mixed;
+        self.growths += other.growths;
     }
 }
 
@@ -43,15 +46,17 @@ pub struct List {
 }
 
 impl List {
-    /// Counts an accepted call, given the record after it.
-    pub fn add(&mut self, frame: &[u8], record: &Record) {
+    /// Counts a call, given the number that was returned and the record before
+    /// and after it.
+    pub fn add(&mut self, frame: &[u8], number: u32, before: &Record, after: &Record) {
         match frame::read(frame) {
-            Ok(Call::Relabel) => self.add_relabel(record),
-            Ok(Call::Request { .. }) => {
-                let moved = record::map(record) != IDENTITY;
+            Ok(Call::Relabel) if number == 0 => self.add_relabel(after),
+            Ok(Call::Request { .. }) if number == 0 => {
+                let moved = record::map(after) != IDENTITY;
                 self.drawn.moved += u64::from(moved);
                 self.drawn.after_mixed += u64::from(moved && self.mixed);
             }
+            Ok(Call::Grow { .. }) => self.drawn.growths.add(frame, number, before, after),
             _ => {}
         }
     }

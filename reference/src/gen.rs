@@ -63,6 +63,12 @@ impl Log {
         if is_silent(conditions) || (is_wild(conditions) && log.rng.one_in(2)) {
             log.wake();
         }
+        for job in record::jobs(record) {
+            if log.rng.one_in(2) {
+                let growth = log.growth(record, job);
+                log.plan.push_back(growth);
+            }
+        }
         if !log.rng.one_in(4) {
             log.drain(record);
         }
@@ -84,7 +90,7 @@ impl Log {
             self.drain(record);
             return self.release();
         }
-        match self.rng.below(98) {
+        match self.rng.below(120) {
             0..42 => self.request(),
             42..66 => self.release(),
             66..76 => self.good(),
@@ -92,7 +98,9 @@ impl Log {
             84..86 => report(0x0103, self.rng.below(1 << self.n)),
             86..89 => frame(0x0203, &[]),
             89..91 => self.later_setup(),
-            _ => noise::malformed(&mut self.rng),
+            91..98 => noise::malformed(&mut self.rng),
+            98..111 => self.grow(record),
+            _ => self.hurt(record),
         }
     }
 
@@ -154,13 +162,77 @@ impl Log {
             6 => 255,
             _ => self.rng.below(n + 1).min(self.rng.below(n + 1)),
         };
+        let job = self.job();
+        self.ask(0x0201, job, k)
+    }
+
+    /// A request or a growth.
+    fn ask(&mut self, kind: u16, job: u16, k: u32) -> Frame {
         let strategy = match self.rng.below(32) {
             0 => 4,
             1 => 255,
             _ => self.rng.below(4) as u8,
         };
-        let job = self.job().to_le_bytes();
-        frame(0x0201, &[job[0], job[1], k as u8, strategy])
+        let job = job.to_le_bytes();
+        frame(kind, &[job[0], job[1], k as u8, strategy])
+    }
+
+    /// A growth, mostly by a job that holds nodes.
+    fn grow(&mut self, record: &Record) -> Frame {
+        let jobs = record::jobs(record);
+        let job = match self.rng.below(8) {
+            1.. if !jobs.is_empty() => self.rng.pick(&jobs),
+            _ => self.job(),
+        };
+        self.growth(record, job)
+    }
+
+    /// A growth by a job, mostly to the least dimension that is more than it
+    /// holds, or to the one below.
+    fn growth(&mut self, record: &Record, job: u16) -> Frame {
+        let n = self.n;
+        let more = u16::BITS - record::held(record, job).leading_zeros();
+        let k = match self.rng.below(32) {
+            0..3 => n.saturating_sub(self.rng.below(3)),
+            3 => self.rng.pick(&[n + 1, 255]),
+            4..6 => self.rng.below(more + 1),
+            6..10 => more.saturating_sub(1),
+            10..14 => (more + self.rng.below(3)).min(n),
+            _ => more.min(n),
+        };
+        self.ask(0x0204, job, k)
+    }
+
+    /// A growth by a job to the largest dimension that would be granted now;
+    /// any if none would.
+    fn largest(&mut self, record: &Record, job: u16) -> Frame {
+        for k in (0..=self.n).rev() {
+            let growth = self.ask(0x0204, job, k);
+            if call(&mut { *record }, &growth, &mut [0; 12]) == 0 {
+                return growth;
+            }
+        }
+        self.growth(record, job)
+    }
+
+    /// A fault of a held node, which may be repaired then; next its job grows.
+    fn hurt(&mut self, record: &Record) -> Frame {
+        let is_held = |node: &u32| record::holder(record, *node) != 0;
+        let nodes: Vec<u32> = (0..1 << self.n).filter(is_held).collect();
+        if nodes.is_empty() {
+            return self.request();
+        }
+        let node = self.rng.pick(&nodes);
+        let job = record::holder(record, node);
+        let growth = match self.rng.below(3) {
+            0 => self.largest(record, job),
+            _ => self.growth(record, job),
+        };
+        self.plan.push_front(growth);
+        if self.rng.one_in(3) {
+            self.plan.push_front(report(0x0103, node));
+        }
+        report(0x0102, node)
     }
 
     /// A fault while few nodes are faulty, otherwise a repair; a repaired

@@ -15,6 +15,7 @@ pub mod drawn;
 pub mod family;
 pub mod frame;
 pub mod gen;
+pub mod growths;
 pub mod health;
 pub mod log;
 mod noise;

@@ -16,10 +16,10 @@ pub fn report(kind: u16, node: u32) -> Frame {
 
 /// A frame of any kind and size, seldom right; its length field is.
 pub fn malformed(rng: &mut Rng) -> Frame {
-    let six = [0x0101, 0x0102, 0x0103, 0x0201, 0x0202, 0x0203];
-    let near = [0, 1, 0x0100, 0x0104, 0x0200, 0x0204, 0x0301, 0x8001, 0x8003, 0xffff];
+    let known = [0x0101, 0x0102, 0x0103, 0x0201, 0x0202, 0x0203, 0x0204];
+    let near = [0, 1, 0x0100, 0x0104, 0x0200, 0x0205, 0x0301, 0x8001, 0x8003, 0xffff];
     let kind = match rng.below(8) {
-        0..4 => rng.pick(&six),
+        0..4 => rng.pick(&known),
         4..7 => rng.pick(&near),
         _ => rng.number() as u16,
     };

@@ -6,11 +6,13 @@ use std::process::Command;
 use cube_reference::call;
 use cube_reference::drawn::{Drawn, List};
 use cube_reference::gen::write_log;
+use cube_reference::growths::SORTS;
 use cube_reference::log::run;
+use cube_reference::session::fresh;
 
-use crate::support::{at, Cube};
+use crate::support::at;
 
-const SEEDS: u64 = 44;
+const SEEDS: u64 = 88;
 const FRAMES: u64 = 1000;
 
 fn log(seed: u64) -> Vec<u8> {
@@ -71,7 +73,7 @@ fn every_log_works_and_all_outcomes_come() {
             *all.entry(name).or_insert(0) += count;
         }
     }
-    for number in 4..=14 {
+    for number in (4..=14).chain([17]) {
         assert!(all[&format!("refused {number}")] >= 100, "{number}: {all:?}");
     }
     let broken = all["refused 3"];
@@ -112,11 +114,11 @@ fn drawn() -> [Drawn; 11] {
     for seed in 0..88 {
         let mut log = Vec::new();
         write_log(seed, 3000, &mut log).unwrap();
-        let (mut cube, mut list) = (Cube::new((seed % 11) as u32), List::default());
+        let (mut record, mut list) = (fresh((seed % 11) as u32), List::default());
         for frame in frames(&log) {
-            if call(&mut cube.record, frame, &mut [0; 12]) == 0 {
-                list.add(frame, cube.record[..].try_into().unwrap());
-            }
+            let before = record;
+            let number = call(&mut record, frame, &mut [0; 12]);
+            list.add(frame, number, &before, &record);
         }
         drawn[(seed % 11) as usize] += list.drawn;
     }
@@ -133,6 +135,16 @@ fn relabels_are_drawn_with_every_kind_of_d() {
     }
 }
 
+/// Each sort of growth comes at every n where it can.
+#[test]
+fn growths_are_drawn_of_every_sort() {
+    for (n, drawn) in drawn().into_iter().enumerate() {
+        for ((sort, least), count) in SORTS.into_iter().zip(drawn.growths.0) {
+            assert!(n < least || count >= 10, "n {n}, {sort}: {count}");
+        }
+    }
+}
+
 #[test]
 fn edges_are_met() {
     assert!(met(&[4, 0, 0x03, 0x02], " done 2") > 10); // relabel, D of 2
@@ -142,4 +154,7 @@ fn edges_are_met() {
     assert!(met(&[6, 0, 0x01, 0x01, 0x00, 0x04], " refused 8 0") > 0); // node 1024
     assert!(met(&[6, 0, 0x01, 0x01, 0xff, 0x03], " done 0") > 0); // node 1023
     assert!(met(&[0xff, 0xff], " 0") > 0); // the longest frame
+    assert!(met(&[8, 0, 0x04, 0x02, 0, 0], " refused 6 0") > 10);
+    assert!(met(&[8, 0, 0x04, 0x02, 0xff, 0xff], " refused 17 0") > 10);
+    assert!(met(&[8, 0, 0x04, 0x02], " 0 255 1") > 0); // 256 nodes
 }
