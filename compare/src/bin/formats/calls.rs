@@ -13,7 +13,7 @@ fn word(bytes: &[u8], at: usize) -> usize {
     usize::from(bytes[at]) + 256 * usize::from(bytes[at + 1])
 }
 
-/// The examples of the six frames.
+/// The examples of the frames, one of each kind.
 pub fn examples(guide: &Guide) -> Result<Vec<Vec<u8>>, String> {
     let rows = guide.section("Frames")?.rows(&FRAMES)?;
     rows.iter().map(|(_, cells)| bytes(&cells[6])).collect()
@@ -47,7 +47,7 @@ pub fn frames(guide: &Guide, section: &Section) -> Outcome {
         let unknown = [&frame[..3], &[0x7f], &frame[4..]].concat();
         ensure(call(&unknown) == 4, || format!("line {line}: an unknown kind isn't refused 4"))?;
     }
-    ensure(rows.len() == 6, || format!("there are {} calls", rows.len()))?;
+    ensure(rows.len() == 7, || format!("there are {} calls", rows.len()))?;
     Ok(3 * rows.len())
 }
 

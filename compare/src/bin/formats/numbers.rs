@@ -9,20 +9,23 @@ use crate::section::{Guide, Row, Section};
 
 const SMALLEST: [&str; 4] = ["number", "record", "frame", "reply buffer afterwards"];
 
-/// The table has the numbers from 1 on in order, and each is met by a row of the
-/// smallest calls, whose reply is as the table says.
+/// The numbers in the order of their checks.
+const ORDER: [usize; 15] = [1, 2, 3, 4, 5, 6, 7, 8, 9, 10, 11, 17, 12, 13, 14];
+
+/// The table has the numbers in order, and each is met by a row of the smallest
+/// calls, whose reply is as the table says.
 pub fn in_order(guide: &Guide, section: &Section) -> Outcome {
     let rows = section.rows(&["number", "cause", "met by", "reply"])?;
     let smallest = guide.section("A smallest call that meets each")?.rows(&SMALLEST)?;
-    for (place, (line, cells)) in rows.iter().enumerate() {
-        ensure(number(&cells[0])? == place + 1, || format!("line {line}: not {}", place + 1))?;
+    for ((line, cells), due) in rows.iter().zip(ORDER) {
+        ensure(number(&cells[0])? == due, || format!("line {line}: not {due}"))?;
         let met: Vec<&Row> = smallest.iter().filter(|(_, row)| row[0] == cells[0]).collect();
         ensure(!met.is_empty(), || format!("line {line}: no smallest call"))?;
         let writes = |row: &Row| !byte_strings(&row.1[3]).is_empty();
         let said = cells[3].starts_with(&format!("refused {}", cells[0]));
         ensure(met.iter().all(|row| writes(row) == said), || format!("line {line}: the reply"))?;
     }
-    ensure(rows.len() == 14, || format!("there are {} numbers", rows.len()))?;
+    ensure(rows.len() == ORDER.len(), || format!("there are {} numbers", rows.len()))?;
     Ok(rows.len())
 }
 
@@ -79,8 +82,8 @@ fn smallest_call(section: &Section, (_, cells): &Row) -> Result<(), String> {
 /// What was tried, of a strategy, n and k.
 type Count = (i64, usize, u16, u16);
 
-/// Every n, k and strategy on a cube without a good node: refused 14, with the
-/// count that the table's formula gives.
+/// Every n, k and strategy on a cube without a good node, by a request and by
+/// a growth: refused 14, with the count that the table's formula gives.
 pub fn tried(_: &Guide, section: &Section) -> Outcome {
     let rows = section.rows(&["strategy", "k = 0", "k from 1 to n - 1", "k = n, from 1"])?;
     let mut counts: Vec<Count> = Vec::new();
@@ -91,19 +94,32 @@ pub fn tried(_: &Guide, section: &Section) -> Outcome {
             for k in 0..=n {
                 let formula = &cells[if k == 0 { 1 } else { 2 + usize::from(k == n) }];
                 let said = formula::value(formula, n.into(), k.into())?;
-                let frame = proved::frame::request(1, k as u8, strategy as u8);
-                let (number, reply) = Cube::fresh(n.into()).call(&frame, 12);
-                let got = i64::from(u16::from_le_bytes([reply[6], reply[7]]));
-                ensure((number, got) == (14, said), || {
-                    format!("line {line}, n {n}, k {k}: refused {number}, tried {got}, not {said}")
-                })?;
-                counts.push((got, strategy, n, k));
+                for got in none_free(n, k, strategy) {
+                    ensure(got == (14, said), || {
+                        format!("line {line}, n {n}, k {k}: number and tried {got:?}, not {said}")
+                    })?;
+                    counts.push((got.1, strategy, n, k));
+                }
             }
         }
     }
     ensure(rows.len() == 4, || format!("there are {} strategies", rows.len()))?;
     largest_count(section, &counts)?;
     Ok(counts.len())
+}
+
+/// Number and 'tried' of a request by job 1, and from k = 1 on of its growth when
+/// it holds node 0, on a cube without a good node.
+fn none_free(n: u16, k: u16, strategy: usize) -> Vec<(usize, i64)> {
+    let fields = [1, 0, k as u8, strategy as u8];
+    let call = |kind, holder| {
+        let mut cube = Cube::fresh(n.into());
+        cube.record[16] = holder;
+        let (number, reply) = cube.call(&proved::frame::frame(kind, &fields), 12);
+        (number, i64::from(u16::from_le_bytes([reply[6], reply[7]])))
+    };
+    let growth = (k != 0).then(|| call(0x0204, 1));
+    growth.into_iter().chain([call(0x0201, 0)]).collect()
 }
 
 /// The sentence about the largest count: how large, and for which cases alone.
