@@ -18,6 +18,7 @@
  *   request   0x0201, length 8:  job, k (one byte), strategy (one byte)
  *   release   0x0202, length 6:  job
  *   relabel   0x0203, length 4
+ *   grow      0x0204, length 8:  job, k (one byte), strategy (one byte)
  *
  * Replies: length, kind, then
  *   granted   0x8001, length 12: job, lowest node, star bits, members tried
@@ -26,6 +27,11 @@
  *                                nodes given back, for a relabel the size of
  *                                D, else 0
  * Reply bytes past the frame keep their values.
+ *
+ * A growth asks for a larger subcube for a job that holds nodes. To it the
+ * job's own good nodes count as free. The job gets the first free member of
+ * the strategy's family and loses its nodes outside that member, faulty ones
+ * too. A refused growth leaves it its nodes.
  *
  * A relabel makes the map from D, the directions in which any two nodes below
  * 2^n that aren't good differ. A node that never reported, or was repaired and
@@ -38,17 +44,18 @@
  *    1  the record is not one                      record and reply untouched
  *    2  the reply buffer has under 12 bytes        record and reply untouched
  *    3  frame under 4 bytes, or its length field isn't its size
- *    4  kind not one of the six
+ *    4  kind not one of the seven
  *    5  size not its kind's
  *    6  job 0
  *    7  k above n (set-up: n above 10)
  *    8  node not below 2^n
  *    9  strategy above 3
  *   10  the requesting job holds nodes
- *   11  the releasing job holds none
+ *   11  the releasing or growing job holds none
+ *   17  growth: 2^k is not more than the number of nodes that the job holds
  *   12  'good' on a faulty node, 'repaired' on one that isn't faulty
  *   13  relabel while any node is held
- *   14  no free member
+ *   14  no free member (growth: none is good and unheld by others)
  * From 3 on the refused frame is written too; the record is untouched by every
  * refusal. An accepted call writes the reply's frame, and the record holds the
  * cube after the call.
