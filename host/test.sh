@@ -30,12 +30,17 @@ new_machine() {
     socket=$folder/socket
 }
 
+# What the second program prints and leaves for the log.
+refer() {
+    reference cube-ref < "$folder/log" > "$folder/lines"
+    reference cube-record < "$folder/log" > "$folder/expected"
+}
+
 # make_log SEED FRAMES: a log, and what the second program prints and leaves for it.
 make_log() {
     dimension=$(($1 % 11))
     reference cube-gen "$1" "$2" > "$folder/log"
-    reference cube-ref < "$folder/log" > "$folder/lines"
-    reference cube-record < "$folder/log" > "$folder/expected"
+    refer
 }
 
 start() {
@@ -56,14 +61,47 @@ same_as_reference() {
     cmp -n 3088 "$folder/expected" "$record"
 }
 
-# plain_run SEED FRAMES
-plain_run() {
-    new_machine "$memory"
-    make_log "$1" "$2"
+# The log through the socket of one daemon.
+run_log() {
     start "$bin/cube-host" "$record" "$socket" "$dimension"
     "${client[@]}" "$socket" < "$folder/log" > "$folder/printed"
     end_daemon
     same_as_reference
+}
+
+# plain_run SEED FRAMES
+plain_run() {
+    new_machine "$memory"
+    make_log "$1" "$2"
+    run_log
+}
+
+# Bytes that are given in hexadecimal.
+bytes() { printf %b "$(printf '\\x%s' "$@")"; }
+
+# Growths of job 7 beside job 8 in a cube of four nodes, by buddy.
+growths() {
+    local node
+    new_machine "$memory"
+    dimension=2
+    {
+        bytes 06 00 01 03 02 00
+        for node in 00 01 02 03; do bytes 06 00 01 01 $node 00; done
+        bytes 08 00 01 02 07 00 00 00
+        bytes 08 00 01 02 08 00 00 00
+        bytes 08 00 04 02 09 00 01 00 # job 9 holds none
+        bytes 08 00 04 02 07 00 00 00 # one node is not more than job 7 has
+        bytes 08 00 04 02 07 00 02 00 # job 8 has node 1
+        bytes 08 00 04 02 07 00 01 00 # elsewhere: node 0 is lost
+        bytes 06 00 02 02 08 00
+        bytes 08 00 04 02 07 00 02 00
+    } > "$folder/log"
+    refer
+    run_log
+    tail -n 9 "$folder/printed" | cmp - <(
+        printf '%s\n' '6 granted 7 0 0 1' '7 granted 8 1 0 2' '8 refused 11 0' '9 refused 17 0' '10 refused 14 1' \
+            '11 granted 7 2 1 2' '12 done 1' '13 granted 7 0 3 1' 'total 13 setup 1 done 5 granted 4 refused 3'
+    )
 }
 
 # The command of a daemon that will be killed: by a power cut at one of its next 40 steps, or from outside within 50 ms.
@@ -186,8 +224,8 @@ refused_starts() {
 full_disk() {
     local waiting
     new_machine "$memory"
-    reference cube-ref < examples/first.log > "$folder/lines"
-    reference cube-record < examples/first.log > "$folder/expected"
+    cp examples/first.log "$folder/log"
+    refer
     start "$bin/cube-host" "$record" "$socket" 1
     head -c 6 examples/first.log | "${client[@]}" "$socket" > "$folder/printed"
     end_daemon
@@ -240,10 +278,11 @@ done
 echo "host: 3 logs of 20000 frames through the socket, no difference"
 killed_often kill "$disk" 60
 killed_often cut "$memory" 200
+growths
 damaged_files
 refused_starts
 full_disk
 refused_call
 odd_clients
 if command -v valgrind > /dev/null; then watched 15 400; else echo "host: no valgrind here"; fi
-echo "host: damaged files, refused starts, a full disk and odd clients as expected"
+echo "host: growths, damaged files, refused starts, a full disk and odd clients as expected"
