@@ -1,16 +1,19 @@
-//! The bit-parallel limit: how fast a request can be decided from a record if
-//! 1024 flags are sixteen words and every star is an 'and' with a shift. It is
-//! not proved, and answers for buddy, tree and extended alone.
+//! The bit-parallel limit: how fast a request or a growth can be decided from a
+//! record if 1024 flags are sixteen words and every star is an 'and' with a
+//! shift. It is not proved, and answers for buddy, tree and extended alone.
 //!
 //! It reads conditions, holders and the map from the record, finds the first
 //! free member and its place, or that there is none, and writes the reply. It
-//! takes record and frame for right ones: it makes no test of refusals 1 to
-//! 10, and it doesn't write the record.
+//! takes record and frame for right ones: it makes no test of refusals before
+//! 14, and it doesn't write the record.
 
 use crate::rows::Record;
 use crate::words::Labels;
 use cube_reference::{node, record};
 use std::ops::Range;
+
+/// The first byte of a growth's kind; a request's is another.
+const GROW: u8 = 0x04;
 
 /// A walk's answer, on labels: the member with its place, or the count.
 type Answer = Result<Found, u32>;
@@ -21,11 +24,16 @@ struct Found {
     tried: u32,
 }
 
-/// Answers a request at n = 10 as `cube_call` does, but for what is said above.
+/// Answers a request or a growth at n = 10 as `cube_call` does, but for what is
+/// said above.
 pub fn call(record: &mut [u8], frame: &[u8], reply: &mut [u8]) -> u32 {
     let record: &Record = (&*record).try_into().expect("a record");
+    let job = u16::from_le_bytes([frame[4], frame[5]]);
     let (k, strategy) = (u32::from(frame[6]), frame[7]);
-    let free = Labels::free(record);
+    let free = match frame[2] {
+        GROW => Labels::free(record, [0, job]),
+        _ => Labels::free(record, [0]),
+    };
     let answer = match strategy {
         _ if k == 0 => buddy(&free, 0),
         0 => buddy(&free, k),
@@ -34,7 +42,6 @@ pub fn call(record: &mut [u8], frame: &[u8], reply: &mut [u8]) -> u32 {
     };
     match answer {
         Ok(Found { low, stars, tried }) => {
-            let job = u16::from_le_bytes([frame[4], frame[5]]);
             let map = record::map(record);
             let (low, stars) = (node(&map, low) as u16, node(&map, stars) as u16);
             write(reply, [12, 0x8001, job, low, stars, tried as u16]);
@@ -127,7 +134,8 @@ fn zeros_before(alpha: u32, places: Range<u32>) -> u32 {
 
 #[cfg(test)]
 mod tests {
-    use crate::rows::Record;
+    use crate::rows::{grow, Record};
+    use cube_proved::frame::request;
     use cube_reference::record::{set_condition, set_holder, set_map};
     use cube_reference::rng::Rng;
     use cube_reference::IDENTITY;
@@ -149,20 +157,31 @@ mod tests {
         record
     }
 
+    /// Whether the limit had to answer this, and did as the second program does.
+    fn answers(record: Record, frame: &[u8]) -> bool {
+        let [mut ours, mut theirs] = [[0; 12]; 2];
+        let number = cube_reference::call(&mut { record }, frame, &mut theirs);
+        if ![0, 14].contains(&number) {
+            return false;
+        }
+        assert_eq!(super::call(&mut { record }, frame, &mut ours), number);
+        assert_eq!(ours, theirs, "{frame:?}, {record:?}");
+        true
+    }
+
     #[test]
     fn answers_as_the_second_program_does() {
         let mut rng = Rng::new(11);
+        let mut grown = 0;
         for odds in [1, 2, 3, 4, 6, 10, 20, 50, 100, 200, 500, 1000, 5000] {
             for _ in 0..20 {
                 let record = record(&mut rng, odds);
                 for (k, strategy) in (0..=10).flat_map(|k| [0, 2, 3].map(|s| (k, s))) {
-                    let frame = cube_proved::frame::request(7, k, strategy);
-                    let [mut ours, mut theirs] = [[0; 12]; 2];
-                    let number = super::call(&mut { record }, &frame, &mut ours);
-                    assert_eq!(number, cube_reference::call(&mut { record }, &frame, &mut theirs));
-                    assert_eq!(ours, theirs, "k {k}, strategy {strategy}, {record:?}");
+                    assert!(answers(record, &request(7, k, strategy)));
+                    grown += u32::from(answers(record, &grow(256, k, strategy)));
                 }
             }
         }
+        assert!(grown > 2000, "only {grown} growths");
     }
 }

@@ -1,5 +1,6 @@
-//! The proved calls and the log program beside the second program, and
-//! requests beside the bit-parallel limit: times in one run, and their ratios.
+//! The proved calls and the log program beside the second program, and requests
+//! and growths beside the bit-parallel limit: times in one run, and their
+//! ratios.
 //! `bench/run` builds what this needs and runs it.
 
 mod logs;
@@ -15,11 +16,13 @@ use std::path::Path;
 use table::Line;
 
 /// The programs that answer a row: the library, the second program and, for a
-/// request at n = 10 by another strategy than Gray, the limit.
+/// request or a growth at n = 10 that walks by another strategy than Gray, the
+/// limit.
 fn programs(row: &Row) -> Vec<Call> {
-    let is_request = row.call[2..4] == [0x01, 0x02];
+    let asks = [[0x01, 0x02], [0x04, 0x02]].iter().any(|kind| row.call[2..4] == *kind);
+    let walks = || row.after(reference::call).iter().all(|after| [0, 14].contains(&after.0));
     let mut programs: Vec<Call> = vec![proved::call, reference::call];
-    if row.n == 10 && is_request && row.call[7] != 1 {
+    if row.n == 10 && asks && row.call[7] != 1 && walks() {
         programs.push(limit::call);
     }
     programs

@@ -38,6 +38,11 @@ impl fmt::Display for Row {
     }
 }
 
+/// The frame of a growth.
+pub fn grow(job: u16, k: u8, strategy: u8) -> Vec<u8> {
+    frame(0x0204, &request(job, k, strategy)[4..])
+}
+
 /// A row on the record that these calls leave.
 fn row(name: &str, n: u32, before: Vec<Vec<u8>>, call: Vec<u8>) -> Row {
     let mut start = [0; 3088];

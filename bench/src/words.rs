@@ -20,9 +20,11 @@ const ZERO_DIGIT: [u64; 6] = [
 pub struct Labels<const L: usize>([u64; L]);
 
 impl Labels<16> {
-    /// The labels that are free by a record of n = 10: good and unheld.
-    pub fn free(record: &Record) -> Labels<16> {
-        let words = from_fn(|w| free_nodes(&record[16 + 128 * w..], &record[2064 + 64 * w..]));
+    /// The labels that are free by a record of n = 10: good, and with one of
+    /// these holders.
+    pub fn free<const H: usize>(record: &Record, holders: [u16; H]) -> Labels<16> {
+        let words =
+            from_fn(|w| free_nodes(&record[16 + 128 * w..], &record[2064 + 64 * w..], holders));
         let mut labels = Labels(words);
         labels.move_digits(record::map(record));
         labels
@@ -151,10 +153,12 @@ impl<const L: usize> Labels<L> {
 /// The free ones of 64 nodes, by their holders and conditions: of 0, 1 and 2
 /// only 'good' is odd. Eight nodes at a time, a byte each: the product has the
 /// lowest bit of byte i as bit i of its highest byte.
-fn free_nodes(holders: &[u8], conditions: &[u8]) -> u64 {
+fn free_nodes<const H: usize>(holders: &[u8], conditions: &[u8], wanted: [u16; H]) -> u64 {
     let mut unheld = [0; 64];
-    for (unheld, holder) in unheld.iter_mut().zip(holders.chunks_exact(2)) {
-        *unheld = u8::from(u16::from_le_bytes([holder[0], holder[1]]) == 0);
+    for wanted in wanted {
+        for (unheld, holder) in unheld.iter_mut().zip(holders.chunks_exact(2)) {
+            *unheld |= u8::from(u16::from_le_bytes([holder[0], holder[1]]) == wanted);
+        }
     }
     let eight = |bytes: &[u8], i: usize| u64::from_le_bytes(from_fn(|j| bytes[8 * i + j]));
     (0..8).fold(0, |word, i| {
