@@ -2,7 +2,7 @@
 
 use crate::options::Options;
 use crate::rows::{self, Row};
-use crate::{patterns, relabels};
+use crate::{growths, patterns, relabels};
 
 /// Rows with a title, and whether each of them is of interest by itself.
 pub struct Part {
@@ -19,10 +19,15 @@ fn calls() -> Vec<Part> {
     let part = |title: &str, rows| Part { title: title.to_string(), rows, each: true };
     vec![
         part("each call", SOME.into_iter().flat_map(rows::calls).collect()),
+        part("each growth", SOME.into_iter().flat_map(each_growth).collect()),
         part("relabel by what isn't good", SOME.into_iter().flat_map(relabels::rows).collect()),
         part("on a relabelled cube", SOME.into_iter().map(rows::relabelled).collect()),
         part("how cost grows with n", (0..=10).flat_map(rows::grown).collect()),
     ]
+}
+
+fn each_growth(n: u32) -> impl Iterator<Item = Row> {
+    rows::growths(n).into_iter().chain(growths::drawn(n))
 }
 
 /// The parts that are asked for.
@@ -30,7 +35,8 @@ pub fn all(options: &Options) -> Vec<Part> {
     let patterns = patterns::plain(10)
         .chain(patterns::relabelled(10))
         .chain(patterns::small(7))
-        .chain(patterns::small(4));
+        .chain(patterns::small(4))
+        .chain(growths::all());
     let patterns = patterns.map(|(title, rows)| Part { title, rows, each: false });
     calls().into_iter().chain(patterns).filter(|part| options.wants(&part.title)).collect()
 }

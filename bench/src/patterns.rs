@@ -13,16 +13,16 @@ use Other::{Faulty, Held, Silent};
 
 /// A request, with the last member of its family, and a cube that jobs have
 /// used by the same strategy.
-struct Request<'a> {
-    n: u32,
-    k: u32,
+pub struct Request<'a> {
+    pub n: u32,
+    pub k: u32,
     last: Subcube,
     used: &'a Record,
 }
 
 /// What a node that isn't free is.
 #[derive(Clone, Copy)]
-enum Other {
+pub enum Other {
     Silent,
     Faulty,
     Held,
@@ -30,8 +30,8 @@ enum Other {
 
 /// A name, which labels are free for a request, and what the others are.
 #[derive(Clone, Copy)]
-struct Pattern {
-    name: &'static str,
+pub struct Pattern {
+    pub name: &'static str,
     free: fn(&Request, u32) -> bool,
     other: Other,
 }
@@ -41,13 +41,13 @@ const fn pattern(name: &'static str, other: Other, free: fn(&Request, u32) -> bo
 }
 
 impl Request<'_> {
-    fn new(n: u32, k: u32, strategy: usize, used: &Record) -> Request<'_> {
+    pub fn new(n: u32, k: u32, strategy: usize, used: &Record) -> Request<'_> {
         let last = *family(strategy as u8, n, k).last().expect("no family is empty");
         Request { n, k, last, used }
     }
 
     /// The stars that a tree's member has beside its highest.
-    fn low(&self) -> u32 {
+    pub fn low(&self) -> u32 {
         self.k.saturating_sub(1)
     }
 
@@ -57,13 +57,13 @@ impl Request<'_> {
     }
 
     /// Whether it is in the family's last member.
-    fn in_last(&self, x: u32) -> bool {
+    pub fn in_last(&self, x: u32) -> bool {
         x & !self.last.stars == self.last.low
     }
 }
 
 /// A cube after some hundred requests and releases, about half of it held.
-fn used(n: u32, strategy: usize) -> Record {
+pub fn used(n: u32, strategy: usize) -> Record {
     let (mut record, mut rng) = ([0; 3088], Rng::new(22));
     cube_reference::setup(&mut record, n);
     (0..1 << n).for_each(|node| set_condition(&mut record, node, GOOD));
@@ -88,7 +88,7 @@ fn ends(x: u32, low: u32) -> bool {
 }
 
 /// Whether the one-bits are even in number: no two such are neighbours.
-fn is_even(x: u32) -> bool {
+pub fn is_even(x: u32) -> bool {
     x.count_ones().is_multiple_of(2)
 }
 
@@ -98,7 +98,7 @@ fn chosen(x: u32, percent: u32) -> bool {
 }
 
 /// Patterns in which at most a few labels are not free.
-const SILENT: [Pattern; 4] = [
+pub const SILENT: [Pattern; 4] = [
     pattern("all free", Silent, |_, _| true),
     pattern("first node silent", Silent, |_, x| x != 0),
     pattern("middle node silent", Silent, |r, x| x != 1 << r.n >> 1),
@@ -107,7 +107,7 @@ const SILENT: [Pattern; 4] = [
 
 /// By the one-bits: no subcube of k has all of its labels among those with
 /// fewer than k, nor among those with more than n - k; with one more, some do.
-const WEIGHTS: [Pattern; 5] = [
+pub const WEIGHTS: [Pattern; 5] = [
     pattern("bad from k one-bits up", Faulty, |r, x| x.count_ones() < r.k),
     pattern("bad above k one-bits", Faulty, |r, x| x.count_ones() <= r.k),
     pattern("bad up to n - k one-bits", Faulty, |r, x| x.count_ones() > r.n - r.k),
@@ -117,7 +117,7 @@ const WEIGHTS: [Pattern; 5] = [
 
 /// By blocks of k or of k - 1 low stars: tests that fail at the last label,
 /// at the first, or only for the partner of a block that is free.
-const BLOCKS: [Pattern; 5] = [
+pub const BLOCKS: [Pattern; 5] = [
     pattern("first of each 2^k bad", Silent, |r, x| x & ones(r.k) != 0),
     pattern("last of each 2^k bad", Silent, |r, x| !ends(x, r.k)),
     pattern("last of each 2^k bad but the last member", Silent, |r, x| {
@@ -130,7 +130,7 @@ const BLOCKS: [Pattern; 5] = [
 ];
 
 /// Patterns in which the free members come late, or only the first are.
-const LATE: [Pattern; 6] = [
+pub const LATE: [Pattern; 6] = [
     pattern("none free", Silent, |_, _| false),
     pattern("first half bad", Faulty, |r, x| r.upper(x)),
     pattern("second half bad", Faulty, |r, x| !r.upper(x)),
@@ -142,7 +142,7 @@ const LATE: [Pattern; 6] = [
 ];
 
 /// Even and uneven mixtures.
-const MIXED: [Pattern; 9] = [
+pub const MIXED: [Pattern; 9] = [
     pattern("every 8th bad, from 0", Silent, |_, x| x % 8 != 0),
     pattern("every 8th bad, from 7", Silent, |_, x| x % 8 != 7),
     pattern("2 % bad", Silent, |_, x| !chosen(x, 2)),
@@ -155,7 +155,7 @@ const MIXED: [Pattern; 9] = [
 ];
 
 /// A record with the labels of a pattern free.
-fn record(request: &Request, pattern: &Pattern, map: &Map) -> Record {
+pub fn record(request: &Request, pattern: &Pattern, map: &Map) -> Record {
     let mut record = [0; 3088];
     cube_reference::setup(&mut record, request.n);
     set_map(&mut record, map);

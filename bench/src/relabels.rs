@@ -50,7 +50,7 @@ const DRAWN: [(&str, Condition); 4] = [
 ];
 
 /// How many are drawn: more than the processor remembers.
-const RECORDS: usize = 512;
+pub const RECORDS: usize = 512;
 
 fn record(rng: &mut Rng, n: u32, condition: Condition) -> Record {
     let mut record = [0; 3088];

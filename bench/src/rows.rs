@@ -83,6 +83,25 @@ pub fn calls(n: u32) -> Vec<Row> {
     rows
 }
 
+/// Growths, granted and refused, at one n from 1 on. Those that are granted are
+/// of half the dimension, by a job that holds a half of what it gets; where
+/// none is free the job holds one node, and the others are silent.
+pub fn growths(n: u32) -> Vec<Row> {
+    let k = (n as u8 / 2).max(1);
+    let held = |strategy: u8| [goods(n), vec![request(7, k - 1, strategy)]].concat();
+    let alone = vec![good((1 << n) - 1), request(7, 0, 0)];
+    let mut rows = vec![
+        row("refused growth (11)", n, goods(n), grow(7, k, 0)),
+        row("refused growth (17)", n, held(0), grow(7, k - 1, 0)),
+    ];
+    for (strategy, name) in (0..).zip(STRATEGIES) {
+        let call = grow(7, k, strategy);
+        rows.push(row(&format!("growth granted, {name}"), n, held(strategy), call.clone()));
+        rows.push(row(&format!("growth, none free, {name}"), n, alone.clone(), call));
+    }
+    rows
+}
+
 /// A request on a cube with nothing free: every member is tried.
 fn nothing_free(n: u32, k: u32, strategy: usize) -> Row {
     let name = format!("none free, {}, k {k}", STRATEGIES[strategy]);
@@ -101,7 +120,15 @@ pub fn relabelled(n: u32) -> Row {
 
 /// What is followed from n to n: one call of each sort.
 pub fn grown(n: u32) -> Vec<Row> {
-    let wanted = ["report good", "relabel", "request granted, buddy", "release, buddy"];
-    let calls = calls(n).into_iter().filter(|row| wanted.contains(&&row.name[..]));
+    let wanted = [
+        "report good",
+        "relabel",
+        "request granted, buddy",
+        "growth granted, buddy",
+        "release, buddy",
+    ];
+    let growths = if n > 0 { growths(n) } else { vec![] };
+    let calls = calls(n).into_iter().chain(growths);
+    let calls = calls.filter(|row| wanted.contains(&&row.name[..]));
     calls.chain((0..STRATEGIES.len()).map(|s| nothing_free(n, n / 2, s))).collect()
 }

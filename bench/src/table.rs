@@ -62,14 +62,14 @@ fn above(anchor: &Anchor, ratios: &[f64]) -> usize {
 
 /// The heads of `part`'s columns.
 pub fn heads() {
-    println!("\n{:60} {:^29} {:^29}", "", "library / second", "library / limit");
+    println!("\n{:62} {:^29} {:^29}", "", "library / second", "library / limit");
     let columns = format!("{:>5} {:>6} {:>8} {:>6}", "rows", "median", "highest", "above");
-    println!("{:60}  {columns}  {columns}", "pattern");
+    println!("{:62}  {columns}  {columns}", "pattern");
 }
 
 /// One line for many rows.
 pub fn part(title: &str, lines: &[Line]) {
-    print!("{title:60}");
+    print!("{title:62}");
     for anchor in [SECOND, LIMIT] {
         let ratios = ratios(&anchor, lines);
         if let Some(highest) = ratios.last() {
