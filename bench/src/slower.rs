@@ -2,7 +2,7 @@
 //! another build, or all rows. `bench/slower` builds and runs this.
 
 use cube_bench::options::Options;
-use cube_bench::parts;
+use cube_bench::parts::{self, Part};
 use cube_bench::rows::{Call, Row};
 use cube_bench::time::{self, Times};
 use std::process::ExitCode;
@@ -39,12 +39,16 @@ fn print(row: &Row, times: &Times) {
     println!("{row:74} {:>8.0} ns {:>9.0} {ratio:>6.2}", took[0], took[1]);
 }
 
-/// The rows that both builds answer alike, and how many there are besides;
-/// these are named and not timed.
-fn by_answer(rows: Vec<Row>) -> (Vec<Row>, usize) {
+/// The rows of a part that both builds answer alike, and how many there are
+/// besides; these are not timed, and named one by one unless they are all.
+fn by_answer(part: Part) -> (Vec<Row>, usize) {
     let (same, others): (Vec<_>, Vec<_>) =
-        rows.into_iter().partition(|row| row.after(NEWER) == row.after(OLDER));
-    others.iter().for_each(|row| println!("{row:74} answered differently"));
+        part.rows.into_iter().partition(|row| row.after(NEWER) == row.after(OLDER));
+    if same.is_empty() {
+        println!("{:74} answered differently, {} rows", part.title, others.len());
+    } else {
+        others.iter().for_each(|row| println!("{row:74} answered differently"));
+    }
     (same, others.len())
 }
 
@@ -55,7 +59,7 @@ fn main() -> ExitCode {
     println!("{title:74} {:>11} {:>9} {:>6}", "newer", "older", "ratio");
     for part in parts::all(&options) {
         let in_doubt = |times: &Times| times.slower() > TENTH;
-        let (rows, others) = by_answer(part.rows);
+        let (rows, others) = by_answer(part);
         other += others;
         let times = time::times(&rows, |_| vec![NEWER, OLDER], in_doubt);
         for (row, times) in rows.iter().zip(times) {
