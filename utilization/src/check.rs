@@ -5,7 +5,7 @@ use crate::cube::Cube;
 use crate::document::has_text;
 use crate::simulate::{run, Load};
 use crate::study::managers;
-use crate::tables::first_run;
+use crate::tables::{first_growths, first_run};
 
 /// Two good nodes can't be fragmented, so that each valid request is granted
 /// and the loads have the product form of loss systems: with rates 2 and 2 the
@@ -22,10 +22,11 @@ fn two_nodes() {
 pub fn check(document: &str) {
     two_nodes();
     assert!(has_text(document), "docs/utilization.md hasn't the text of src/document.md");
-    let table = first_run(&managers());
-    assert!(
-        document.contains(&table),
-        "docs/utilization.md is stale; now the first run gives\n{table}"
-    );
+    for table in [first_run(&managers()), first_growths()] {
+        assert!(
+            document.contains(&table),
+            "docs/utilization.md is stale; now the first run gives\n{table}"
+        );
+    }
     println!("docs/utilization.md: the first run gives its figures again");
 }

@@ -6,10 +6,19 @@ use cube_reference::Reply;
 
 use crate::simulate::Allocate;
 
+/// Lowest node and star bits.
+pub type Subcube = (u16, u16);
+
 /// A refusal that the simulation never causes ends the program.
+#[derive(Clone)]
 pub struct Cube {
     record: [u8; SIZE],
     strategy: u8,
+}
+
+/// The frame of a growth.
+pub fn grow(job: u16, k: u8, strategy: u8) -> Vec<u8> {
+    frame::frame(0x0204, &frame::request(job, k, strategy)[4..])
 }
 
 impl Cube {
@@ -28,6 +37,18 @@ impl Cube {
         cube
     }
 
+    /// What a request or a growth, whose frames `asking` makes, is granted.
+    pub fn ask(&mut self, asking: fn(u16, u8, u8) -> Vec<u8>, job: u16, k: u8) -> Option<Subcube> {
+        match self.call(&asking(job, k, self.strategy)) {
+            Reply::Granted { job: got, lowest, stars, .. } => {
+                assert_eq!((got, stars.count_ones()), (job, k.into()));
+                Some((lowest, stars))
+            }
+            Reply::Refused { number: 14, .. } => None,
+            other => panic!("job {job} asked for {k} and was answered {other:?}"),
+        }
+    }
+
     fn done(&mut self, frame: &[u8]) -> u32 {
         match self.call(frame) {
             Reply::Done { value } => value.into(),
@@ -44,14 +65,7 @@ impl Cube {
 
 impl Allocate for Cube {
     fn request(&mut self, job: u16, k: u8) -> bool {
-        match self.call(&frame::request(job, k, self.strategy)) {
-            Reply::Granted { job: got, stars, .. } => {
-                assert_eq!((got, stars.count_ones()), (job, k.into()));
-                true
-            }
-            Reply::Refused { number: 14, .. } => false,
-            other => panic!("a request was answered {other:?}"),
-        }
+        self.ask(frame::request, job, k).is_some()
     }
 
     fn release(&mut self, job: u16) -> u32 {

@@ -1,5 +1,6 @@
 //! The document: its text with the tables put in.
 
+use crate::growth::{self, Shares, Way};
 use crate::paper;
 use crate::plot;
 use crate::study::{managers, Case, Cell, Estimate, Faults, Manager, Results};
@@ -44,7 +45,20 @@ fn extent(faults: Faults) -> String {
     format!("{runs} runs of {arrivals} arrivals")
 }
 
-pub fn document(results: &Results) -> String {
+/// The largest standard error of a share of growths.
+fn growth_noise(results: &growth::Results) -> String {
+    format!("{:.2}", results.values().map(|estimate| estimate.error).fold(0.0, f64::max))
+}
+
+/// From where to where a share lies, in whole percents.
+fn growth_range(results: &growth::Results, way: Way, share: fn(&Shares) -> f64) -> String {
+    let of_way = results.iter().filter(|(cell, _)| cell.way == way);
+    let mut shares: Vec<f64> = of_way.map(|(_, estimate)| share(&estimate.mean)).collect();
+    shares.sort_by(f64::total_cmp);
+    format!("{:.0} to {:.0}", shares[0], shares[shares.len() - 1])
+}
+
+pub fn document(results: &Results, growths: &growth::Results) -> String {
     let (fixed, drawn) = (extreme(), average());
     let parts = [
         ("table-1", beside(results, granted, &fixed, &paper::TABLE_1)),
@@ -57,7 +71,12 @@ pub fn document(results: &Results) -> String {
         ("others-4", others(results, utilization, &drawn)),
         ("differences", tables::differences(results)),
         ("most", tables::most(results)),
+        ("growths", tables::growths(growths)),
+        ("noise-growths", growth_noise(growths)),
+        ("kept", growth_range(growths, Way::Grow, |shares| shares.kept)),
+        ("displaced", growth_range(growths, Way::ReleaseFirst, |shares| shares.displaced)),
         ("first-run", tables::first_run(&managers())),
+        ("first-growths", tables::first_growths()),
         ("extent", extent(Faults::Extreme)),
         ("extent-drawn", extent(Faults::Drawn(1))),
         ("noise-r", noise(results, granted, true)),

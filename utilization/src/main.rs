@@ -1,10 +1,11 @@
-//! Document 003's simulation on the proved library. `cube-utilization` writes
-//! docs/utilization.md and docs/utilization.svg; `cube-utilization --check`
+//! Document 003's simulation on the proved library, and one of jobs that grow.
+//! `cube-utilization` writes docs/utilization.md and docs/utilization.svg; `cube-utilization --check`
 //! makes a few of the document's figures again.
 
 mod check;
 mod cube;
 mod document;
+mod growth;
 mod lists;
 mod paper;
 mod plot;
@@ -23,6 +24,6 @@ fn main() -> std::io::Result<()> {
         return Ok(());
     }
     let results = study::results(&document::cells());
-    fs::write(page, document::document(&results))?;
+    fs::write(page, document::document(&results, &growth::results(&tables::growth_cases())))?;
     fs::write(docs.join("utilization.svg"), plot::plot(&results, &document::proved()))
 }

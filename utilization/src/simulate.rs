@@ -68,12 +68,12 @@ pub fn run(allocator: &mut dyn Allocate, n: u32, good: u32, load: Load, seed: u6
 }
 
 /// Job numbers go round; whoever had the number before has left long ago.
-fn job(arrival: u32) -> u16 {
+pub fn job(arrival: u32) -> u16 {
     (arrival % 65535) as u16 + 1
 }
 
 /// The unit is above 0, as its logarithm needs.
-fn exponential(rng: &mut Rng, mean: f64) -> f64 {
+pub fn exponential(rng: &mut Rng, mean: f64) -> f64 {
     let unit = ((rng.number() >> 11) + 1) as f64 / (1u64 << 53) as f64;
     -mean * unit.ln()
 }

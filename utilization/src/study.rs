@@ -1,6 +1,7 @@
 //! What is simulated, and the means of several runs.
 
 use std::collections::HashMap;
+use std::hash::Hash;
 use std::sync::atomic::{AtomicUsize, Ordering};
 use std::sync::Mutex;
 use std::thread;
@@ -73,7 +74,7 @@ impl Case {
 }
 
 /// The faulty nodes of a run; those of fewer faults are among those of more.
-fn faulty(case: Case, seed: u64) -> Vec<u16> {
+pub fn faulty(case: Case, seed: u64) -> Vec<u16> {
     let Faults::Drawn(count) = case.faults else {
         return vec![0, 1 << (case.n - 1)];
     };
@@ -120,9 +121,18 @@ pub fn mean(of: Vec<f64>) -> (f64, f64) {
     (mean, (square / count).sqrt())
 }
 
-/// All cells, on all processors.
+/// All cells.
 pub fn results(cells: &[Cell]) -> Results {
-    let (next, seen) = (AtomicUsize::new(0), Mutex::new(Results::new()));
+    on_all_processors(cells, estimate)
+}
+
+/// What each cell gives.
+pub fn on_all_processors<C, E>(cells: &[C], estimate: fn(C) -> E) -> HashMap<C, E>
+where
+    C: Copy + Eq + Hash + Send + Sync,
+    E: Send,
+{
+    let (next, seen) = (AtomicUsize::new(0), Mutex::new(HashMap::new()));
     let work = || {
         while let Some(&cell) = cells.get(next.fetch_add(1, Ordering::Relaxed)) {
             let estimate = estimate(cell);

@@ -2,6 +2,7 @@
 
 use cube_proved::STRATEGIES;
 
+use crate::growth::{self, WAYS};
 use crate::paper::{self, SIZES};
 use crate::simulate::{Measures, BETWEEN};
 use crate::study::{mean, once, Case, Faults, Manager, Results, BUDDY, BUDDY_RELABELLED};
@@ -50,6 +51,9 @@ pub const BESIDE: [(Manager, &str, usize); 3] = [
     (Manager::Printed, "Algorithm 2 as printed", 1),
     (BUDDY_RELABELLED, "buddy relabelled", 1),
 ];
+
+/// The cube sizes of the table of growths.
+const GROWTH_SIZES: [u32; 2] = [5, 10];
 
 fn line(words: impl IntoIterator<Item = String>) -> String {
     format!("| {} |\n", words.into_iter().collect::<Vec<_>>().join(" | "))
@@ -183,6 +187,39 @@ pub fn first_run(managers: &[Manager]) -> String {
         let seen = once((manager, Case::new(5, Faults::Extreme, 20)), 1);
         let name = name(manager);
         text += &line([name, format!("{:.2}", seen.granted), format!("{:.2}", seen.utilization)]);
+    }
+    text
+}
+
+/// The cubes on which jobs grow, and their loads: those of tables 1 and 2.
+pub fn growth_cases() -> Vec<Case> {
+    GROWTH_SIZES.into_iter().flat_map(extreme().cases).collect()
+}
+
+/// For each way the share of those who ask validly that is granted.
+pub fn growths(results: &growth::Results) -> String {
+    let words = ["n".to_string(), "strategy".to_string()].into_iter();
+    let mut text = head(words.chain(extreme().heads).collect());
+    for (n, strategy) in GROWTH_SIZES.into_iter().flat_map(|n| (0..4).map(move |s| (n, s))) {
+        let cells = (extreme().cases)(n).into_iter().map(|case| {
+            let of = |way| results[&growth::Cell { strategy, case, way }].mean.granted;
+            WAYS.map(|way| format!("{:.2}", of(way))).join(" / ")
+        });
+        let name = STRATEGIES[usize::from(strategy)].to_string();
+        text += &line([n.to_string(), name].into_iter().chain(cells));
+    }
+    text
+}
+
+/// The first run of growing jobs alone, at n = 5 and mean 20.
+pub fn first_growths() -> String {
+    let heads = ["strategy", "growth", "release first", "request first"];
+    let mut text = head(heads.map(String::from).to_vec());
+    for (strategy, name) in (0..).zip(STRATEGIES) {
+        let case = Case::new(5, Faults::Extreme, 20);
+        let shares = WAYS.map(|way| growth::once(growth::Cell { strategy, case, way }, 1));
+        let shares = shares.map(|shares| format!("{:.2}", shares.granted));
+        text += &line([name.to_string()].into_iter().chain(shares));
     }
     text
 }
