@@ -10,13 +10,15 @@ use Rattle.hypercube.specs.Labels.{label, node, size, assign}
 use Rattle.hypercube.specs.Subcubes.{vertices, freeAt}
 use Rattle.hypercube.specs.Families.{firstFree}
 use Rattle.hypercube.proofs.Decisions.{dec-or, dec-in, dec-some, dec-every}
-use Rattle.history.specs.Calls.{asking, word, kindOf, lengthField, kind, nodeField, job, dimension, strategy}
+use Rattle.history.specs.Calls.{Log, asking, word, kindOf, lengthField, kind, nodeField, job, dimension, strategy}
+use Rattle.history.specs.Account.{fresh}
 use Rattle.history.specs.Causes.{causes}
-use Rattle.history.specs.Verdicts.{granted, refused, done, firstMet, decided, cause, accept, tell, step, verdict}
-use Rattle.state.specs.declared.Call.the-variants.{Good, Relabel, Request}
+use Rattle.history.specs.Verdicts.{granted, refused, done, firstMet, decided, cause, accept, tell, step, verdict, verdicts}
+use Rattle.history.specs.Held.{Held, without, held}
+use Rattle.state.specs.declared.Call.the-variants.{Good, Relabel, Request, Grow}
 use Rattle.frames.specs.declared.Parsed.the-variants.{Known}
 use Rattle.frames.specs.Parse.{sized, byKind, parsed}
-use Rattle.cube.specs.Run.{Exchange, Exchanges, begin, _next_, fed, historyAt}
+use Rattle.cube.specs.Run.{Exchange, Exchanges, begin, _next_, fed, feed, historyAt}
 
 -- a frame with twelve zeros to reply in
 abbrev exchange : List ℕ → Exchange
@@ -32,6 +34,10 @@ asks j = exchange (8 ∷ 0 ∷ 0x01 ∷ 0x02 ∷ j ∷ 0 ∷ 0 ∷ 0 ∷ [])
 abbrev pub relabels : Exchange
 relabels = exchange (4 ∷ 0 ∷ 0x03 ∷ 0x02 ∷ [])
 
+-- job 1 grows to two nodes, by buddy
+abbrev pub grows : Exchange
+grows = exchange (8 ∷ 0 ∷ 0x04 ∷ 0x02 ∷ 1 ∷ 0 ∷ 1 ∷ 0 ∷ [])
+
 -- one node, or two, good
 abbrev pub one : Exchanges
 one = begin next good 0
@@ -42,6 +48,14 @@ two = begin next good 0 next good 1
 -- of four nodes two good, across direction 2
 abbrev pub across : Exchanges
 across = begin next good 0 next good 2
+
+-- of four nodes job 1 holds node 2, and then nodes 0 and 1 are good
+abbrev pub outside : Exchanges
+outside = begin next good 2 next asks 1 next good 0 next good 1
+
+-- of two nodes job 1 holds the first and job 2 the second
+abbrev pub shared : Exchanges
+shared = two next asks 1 next asks 2
 
 pub parsed-0 : parsed (good 0 .frame) ≡ Known (Good (record { 0 = 0 }))
 unfolding parsed byKind sized word kindOf
@@ -67,12 +81,21 @@ pub parsed-relabel : parsed (relabels .frame) ≡ Known Relabel
 unfolding parsed byKind sized word kindOf
 parsed-relabel = refl
 
+pub parsed-grow : parsed (grows .frame) ≡ Known (Grow 1 1 0)
+unfolding parsed byKind sized word kindOf
+parsed-grow = refl
+
+-- job j's subcube of node x alone, granted after the calls l
+abbrev pub alone : ℕ → ℕ → Log → Held
+alone j x l = record { holder = j; low = x; stars = 0; before = l }
+
 pub requests : In (kind (fed (asks 1))) asking
 unfolding kind word kindOf
 requests = inl refl
 
 -- what the history says: a silent node is not granted; a good one is, and is held; of two the second is the second tried; two silent nodes differ in
--- a direction, and where one of them is good none do; by two silent nodes across direction 2 direction 1 moves to 2
+-- a direction, and where one of them is good none do; by two silent nodes across direction 2 direction 1 moves to 2; a job that grows loses its
+-- node outside the member; two jobs hold a node each
 pub record Told : Type 0 where
   pub silent : verdict 0 (historyAt 0 begin) (fed (asks 1)) ≡ refused 14 1
   pub one-granted : verdict 0 (historyAt 0 one) (fed (asks 1)) ≡ granted 1 0 0 1
@@ -90,9 +113,15 @@ pub record Told : Type 0 where
       × (historyAt 2 across .condition 3 ≡ 0)
   pub across-unheld : (x : ℕ) → historyAt 2 across .holder x ≡ 0
   pub across-moved : getD (historyAt 2 (across next relabels) .directions) 0 0 ≡ 2
+  pub outside-held : historyAt 2 outside .holder 2 ≡ 1
+  pub outside-granted : verdict 2 (historyAt 2 outside) (fed grows) ≡ granted 1 0 1 1
+  pub outside-lost : historyAt 2 (outside next grows) .holder 2 ≡ 0
+  pub both-good : (historyAt 1 shared .condition 0 ≡ 1) × (historyAt 1 shared .condition 1 ≡ 1)
+  pub both-held : (historyAt 1 shared .holder 0 ≡ 1) × (historyAt 1 shared .holder 1 ≡ 2)
+  pub shared-held : held (verdicts 1 fresh) [] (feed shared) ≡ alone 2 1 (feed (two next asks 1)) ∷ alone 1 0 (feed two) ∷ []
 
 pub told : Told
-unfolding over some-of label node size assign vertices freeAt firstFree dec-or dec-in dec-some dec-every word kindOf lengthField kind nodeField job dimension strategy among countBelow causes firstMet decided cause accept tell step verdict Dec·and Dec·not ℕ-discrete decLe decLt
+unfolding over some-of label node size assign vertices freeAt firstFree dec-or dec-in dec-some dec-every word kindOf lengthField kind nodeField job dimension strategy among countBelow causes firstMet decided cause accept tell step verdict without Dec·and Dec·not ℕ-discrete decLe decLt
 told = record {
   silent = refl;
   one-granted = refl;
@@ -109,4 +138,10 @@ told = record {
   across-good = (refl, refl, refl, refl);
   across-unheld = λ x. refl;
   across-moved = refl;
+  outside-held = refl;
+  outside-granted = refl;
+  outside-lost = refl;
+  both-good = (refl, refl);
+  both-held = (refl, refl);
+  shared-held = refl;
 }

@@ -5,3 +5,4 @@ pub mod Made
 pub mod Holding
 pub mod Refuted
 pub mod Relabels
+pub mod Growths

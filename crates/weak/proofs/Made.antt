@@ -16,11 +16,19 @@ use Rattle.cube.specs.Run.{Exchange}
 use Rattle.cube.specs.Called.{stepOn, callNumber, callRecord, callReply}
 use Rattle.weak.specs.Programs.{Acts, numberBy, recordBy, replyBy}
 
--- a call that does what it does by the delivered program leaves the same record
-pub same-call : (a : Acts) (r : List ℕ) (x : Exchange) (c : Call) → parsed (x .frame) ≡ Known c → a (decode r) c ≡ acted (decode r) c
-    → recordBy a r (x .frame) (x .buffer) ≡ callRecord r (x .frame) (x .buffer)
-unfolding recordBy numberBy callRecord callNumber stepOn
-same-call a r x c e s = rw (e, s)
+-- a call that does what it does by the delivered program leaves the same record, and is answered the same
+module _ (a : Acts) (r : List ℕ) (x : Exchange) (c : Call) (e : parsed (x .frame) ≡ Known c) (s : a (decode r) c ≡ acted (decode r) c) where
+  pub same-call : recordBy a r (x .frame) (x .buffer) ≡ callRecord r (x .frame) (x .buffer)
+  unfolding recordBy numberBy callRecord callNumber stepOn
+  same-call = rw (e, s)
+
+  pub same-returned : numberBy a r (x .frame) (x .buffer) ≡ callNumber r (x .frame) (x .buffer)
+  unfolding numberBy callNumber stepOn
+  same-returned = rw (e, s)
+
+  pub same-reply : replyBy a r (x .frame) (x .buffer) ≡ callReply r (x .frame) (x .buffer)
+  unfolding replyBy callReply stepOn
+  same-reply = rw (e, s)
 
 -- a call on a record that is one, with room for a reply
 module _ (a : Acts) (r : List ℕ) (x : Exchange) (c : Call) (e : parsed (x .frame) ≡ Known c) (v : validRecord r ≡ true)

@@ -1,4 +1,5 @@
--- The six worthless programs of document 01, and the part of the demands that each breaks; three more, of document 02, (b).
+-- The six worthless programs of document 01, and the part of the demands that each breaks; of document 02 three more, (b), and two, (e).
 pub mod Programs
 pub mod Parts
 pub mod Relabels
+pub mod Growths
