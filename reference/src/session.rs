@@ -1,13 +1,15 @@
 //! The calls, the damaged records and the sum that `value-table` prints, as
 //! crates/value_table defines them.
 
+use std::iter::successors;
+
 use crate::frame::{Call, Reply};
 use crate::noise::frame;
 use crate::record::{self, Record, SIZE};
 use crate::{call, setup};
 
-/// How many calls a session has after its start.
-pub const CALLS: u32 = 40;
+/// How many calls of a session are drawn.
+const DRAWN: u32 = 40;
 
 /// The record that a session starts at: each node but 2^n / 2 has been
 /// reported good, and that one stays silent.
@@ -19,22 +21,30 @@ pub fn start(n: u32) -> Record {
     record
 }
 
+/// The calls of a session after its start: the drawn ones, then those that
+/// end it.
+pub fn calls(n: u32) -> Vec<Call> {
+    let numbers = successors(Some(next(n + 1)), |drawn| Some(next(*drawn)));
+    let drawn = (0..DRAWN).zip(numbers).map(|(place, drawn)| call_of(n, place, drawn));
+    drawn.chain(last(n)).collect()
+}
+
 /// Numbers drawn one after another; a session of dimension n starts at n + 1.
-pub fn next(drawn: u32) -> u32 {
+fn next(drawn: u32) -> u32 {
     (drawn * 17364 + 1) % 65521
 }
 
 /// The call at a place, from 0, of a session of dimension n: two faults, a
 /// relabel, then the kind that the number gives. Nodes are eighths of the cube
 /// and 2^n, jobs 0 to 3 and 65535, k up to n + 1, strategies up to 4.
-pub fn call_of(n: u32, place: u32, drawn: u32) -> Call {
+fn call_of(n: u32, place: u32, drawn: u32) -> Call {
     let node = (drawn % 9 * (1 << n) / 8) as u16;
     let job = [0, 1, 2, 3, 65535][(drawn / 5 % 5) as usize];
     let (k, strategy) = ((drawn / 11 % (n + 2)) as u8, (drawn / 13 % 5) as u8);
     let kind = match place {
         0 | 1 => 1,
         2 => 6,
-        _ => drawn / 17 % 16,
+        _ => drawn / 17 % 22,
     };
     match kind {
         0 => Call::Good { node },
@@ -42,17 +52,29 @@ pub fn call_of(n: u32, place: u32, drawn: u32) -> Call {
         4..=5 => Call::Repaired { node },
         6..=7 => Call::Relabel,
         8..=12 => Call::Request { job, k, strategy },
-        _ => Call::Release { job },
+        13..=15 => Call::Release { job },
+        _ => Call::Grow { job, k, strategy },
     }
 }
 
+/// The end of a session: jobs 1 and 2 ask for a node each, then they grow by
+/// turns, to each k up to n; half way node 1 fails. The strategies go round.
+fn last(n: u32) -> impl Iterator<Item = Call> {
+    let strategy = move |k| ((n + k / 2) % 4) as u8;
+    let requests = [1, 2].map(|job| Call::Request { job, k: 0, strategy: strategy(0) });
+    let growth = move |k| Call::Grow { job: 1 + k as u16 % 2, k: k as u8, strategy: strategy(k) };
+    let (early, late) = ((0..n / 2).map(growth), (n / 2..=n).map(growth));
+    requests.into_iter().chain(early).chain([Call::Fault { node: 1 }]).chain(late)
+}
+
 /// One call of each kind.
-pub const EACH: [Call; 6] = [
+pub const EACH: [Call; 7] = [
     Call::Good { node: 0 },
     Call::Fault { node: 0 },
     Call::Repaired { node: 0 },
     Call::Relabel,
     Call::Request { job: 1, k: 0, strategy: 0 },
+    Call::Grow { job: 65535, k: 1, strategy: 0 },
     Call::Release { job: 65535 },
 ];
 
@@ -100,7 +122,7 @@ pub fn make(record: &mut Record, made: Call) -> Given {
     Given { number, words, reply }
 }
 
-fn frame_of(call: Call) -> Vec<u8> {
+pub fn frame_of(call: Call) -> Vec<u8> {
     match call {
         Call::Good { node } => frame(0x0101, &node.to_le_bytes()),
         Call::Fault { node } => frame(0x0102, &node.to_le_bytes()),

@@ -34,7 +34,13 @@ fn others(before: State, rec: &mut [u8]) {
         strategy: 0,
     };
     let s = pair::called(4, s, rec, request);
-    pair::called(5, s, rec, Call::Release(65535));
+    let growth = Call::Grow {
+        job: 65535,
+        k: 1,
+        strategy: 0,
+    };
+    let s = pair::called(5, s, rec, growth);
+    pair::called(6, s, rec, Call::Release(65535));
 }
 
 fn state(change: u32) {

@@ -21,16 +21,35 @@ fn job_of(x: u32) -> u16 {
     if j == 4 { 65535 } else { j }
 }
 
-// k up to n + 1, strategies up to 4.
+// k up to n + 1.
+fn k_of(n: u16, x: u32) -> u8
+    requires { ⌜ n ≤ 10 ⌝ }
+{
+    (x / 11 % (n as u32 + 2)) as u8
+}
+
+// Strategies up to 4.
+fn strategy_of(x: u32) -> u8 {
+    (x / 13 % 5) as u8
+}
+
 fn request_of(n: u16, x: u32) -> Call
     requires { ⌜ n ≤ 10 ⌝ }
 {
-    let k = (x / 11 % (n as u32 + 2)) as u8;
-    let strategy = (x / 13 % 5) as u8;
     Call::Request {
         job: job_of(x),
-        k,
-        strategy,
+        k: k_of(n, x),
+        strategy: strategy_of(x),
+    }
+}
+
+fn growth_of(n: u16, x: u32) -> Call
+    requires { ⌜ n ≤ 10 ⌝ }
+{
+    Call::Grow {
+        job: job_of(x),
+        k: k_of(n, x),
+        strategy: strategy_of(x),
     }
 }
 
@@ -39,7 +58,7 @@ fn kind_of(place: u32, x: u32) -> u32 {
     match place {
         0 | 1 => 1,
         2 => 6,
-        _ => x / 17 % 16,
+        _ => x / 17 % 22,
     }
 }
 
@@ -53,6 +72,7 @@ pub(crate) fn call_of(n: u16, place: u32, x: u32) -> Call
         4..=5 => Call::Repaired(node_of(n, x)),
         6..=7 => Call::Relabel,
         8..=12 => request_of(n, x),
-        _ => Call::Release(job_of(x)),
+        13..=15 => Call::Release(job_of(x)),
+        _ => growth_of(n, x),
     }
 }

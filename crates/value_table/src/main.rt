@@ -2,6 +2,7 @@
 // what is expected: cargo run --release --bin value-table, in reference/.
 mod damaged;
 mod drawn;
+mod last;
 mod maps;
 mod pair;
 mod positions;

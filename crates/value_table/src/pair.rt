@@ -22,6 +22,7 @@ fn by_values(s: State, c: Call) -> Step {
         Call::Relabel => allocator::relabel(s),
         Call::Request { job, k, strategy } => allocator::request(s, job, k, strategy),
         Call::Release(job) => allocator::release(s, job),
+        Call::Grow { job, k, strategy } => allocator::grow(s, job, k, strategy),
     }
 }
 
@@ -37,11 +38,12 @@ fn six(rec: &mut [u8], low: u8, high: u8, field: u16) -> Given {
     send(rec, &frame)
 }
 
-fn request(rec: &mut [u8], job: u16, k: u8, strategy: u8) -> Given {
+// A frame of eight bytes, a request's or a growth's: the low byte of its kind, and the fields.
+fn eight(rec: &mut [u8], low: u8, job: u16, k: u8, strategy: u8) -> Given {
     let frame = [
         8,
         0,
-        1,
+        low,
         2,
         (job % 256) as u8,
         (job / 256) as u8,
@@ -57,8 +59,9 @@ fn by_record(rec: &mut [u8], c: Call) -> Given {
         Call::Fault(x) => six(rec, 2, 1, x.0),
         Call::Repaired(x) => six(rec, 3, 1, x.0),
         Call::Relabel => send(rec, b"\x04\x00\x03\x02"),
-        Call::Request { job, k, strategy } => request(rec, job, k, strategy),
+        Call::Request { job, k, strategy } => eight(rec, 1, job, k, strategy),
         Call::Release(job) => six(rec, 2, 2, job),
+        Call::Grow { job, k, strategy } => eight(rec, 4, job, k, strategy),
     }
 }
 
@@ -68,18 +71,21 @@ fn show_call(c: Call) {
         Call::Fault(x) => show_field(b" fault", x.0),
         Call::Repaired(x) => show_field(b" repaired", x.0),
         Call::Relabel => print::text(b" relabel"),
-        Call::Request { job, k, strategy } => {
-            show_field(b" request", job);
-            print::byte(k);
-            print::byte(strategy);
-        }
+        Call::Request { job, k, strategy } => show_fields(b" request", job, k, strategy),
         Call::Release(job) => show_field(b" release", job),
+        Call::Grow { job, k, strategy } => show_fields(b" grow", job, k, strategy),
     }
 }
 
 fn show_field(name: &[u8], field: u16) {
     print::text(name);
     print::word(field);
+}
+
+fn show_fields(name: &[u8], job: u16, k: u8, strategy: u8) {
+    show_field(name, job);
+    print::byte(k);
+    print::byte(strategy);
 }
 
 fn show_reply(r: Reply) {

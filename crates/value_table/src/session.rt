@@ -1,5 +1,6 @@
-// A session for each n: a fresh cube, every node but 2^n / 2 reported good, then 40 calls.
+// A session for each n: a fresh cube, every node but 2^n / 2 reported good, then 40 calls that are drawn, and its end.
 use super::drawn;
+use super::last;
 use super::pair;
 use super::print;
 use hypercube::Node;
@@ -26,7 +27,7 @@ fn good_but_half(n: u16, fresh: State, rec: &mut [u8]) -> State
     good_from(half + 1, count, s, rec)
 }
 
-fn calls(n: u16, start: State, rec: &mut [u8])
+fn calls(n: u16, start: State, rec: &mut [u8]) -> State
     requires { ⌜ n ≤ 10 ⌝ }
 {
     let mut s = start;
@@ -37,6 +38,7 @@ fn calls(n: u16, start: State, rec: &mut [u8])
         s = pair::called(place, s, rec, drawn::call_of(n, place, x));
         place += 1;
     }
+    s
 }
 
 fn session(n: u16)
@@ -48,7 +50,8 @@ fn session(n: u16)
     print::text(b"session");
     print::word(n);
     pair::show_sums(s, &rec);
-    calls(n, s, &mut rec);
+    let s = calls(n, s, &mut rec);
+    last::calls(n, s, &mut rec);
 }
 
 pub(crate) fn sessions() {

@@ -6,7 +6,7 @@ use std::io::{self, BufWriter, Write};
 
 use cube_reference::frame::{Call, Reply};
 use cube_reference::record::Record;
-use cube_reference::session::{call_of, damaged, make, next, start, sum, CALLS, DAMAGES, EACH};
+use cube_reference::session::{calls, damaged, make, start, sum, DAMAGES, EACH};
 use cube_reference::{gray, label, node, relabel, Map, IDENTITY, MAX_N};
 
 /// One call: the reply by values; number and reply's words by a record; the
@@ -42,10 +42,8 @@ fn print_session(out: &mut impl Write, n: u32) -> io::Result<()> {
     let mut record = start(n);
     let before = sum(&record);
     writeln!(out, "session {n}; {before} {before}")?;
-    let mut drawn = n + 1;
-    for place in 0..CALLS {
-        drawn = next(drawn);
-        print_call(out, place, &mut record, call_of(n, place, drawn))?;
+    for (place, call) in (0..).zip(calls(n)) {
+        print_call(out, place, &mut record, call)?;
     }
     Ok(())
 }

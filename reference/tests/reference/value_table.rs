@@ -4,19 +4,15 @@
 use std::collections::BTreeSet;
 
 use cube_reference::frame::{Call, Reply};
-use cube_reference::session::{call_of, damaged, make, next, start, sum, CALLS, DAMAGES, EACH};
+use cube_reference::growths::{Growths, SORTS};
+use cube_reference::session::{calls, damaged, frame_of, make, start, sum, DAMAGES, EACH};
 
 /// The calls of each session with what they gave.
 fn sessions() -> Vec<(Call, Reply)> {
     let mut all = Vec::new();
     for n in 0..=10 {
         let mut record = start(n);
-        let mut drawn = n + 1;
-        for place in 0..CALLS {
-            drawn = next(drawn);
-            let call = call_of(n, place, drawn);
-            all.push((call, make(&mut record, call).reply));
-        }
+        all.extend(calls(n).into_iter().map(|call| (call, make(&mut record, call).reply)));
     }
     all
 }
@@ -30,15 +26,16 @@ fn the_sessions_meet_every_number_from_6_on() {
             _ => None,
         })
         .collect();
-    assert_eq!(met, (6..=14).collect());
+    assert_eq!(met, (6..=14).chain([17]).collect());
 }
 
 #[test]
 fn the_sessions_have_every_kind_accepted_and_every_strategy_granted() {
-    let (mut done, mut granted) = (BTreeSet::new(), BTreeSet::new());
+    let (mut done, mut granted, mut grown) = (BTreeSet::new(), BTreeSet::new(), BTreeSet::new());
     for (call, reply) in sessions() {
         match (call, reply) {
             (Call::Request { strategy, .. }, Reply::Granted { .. }) => granted.insert(strategy),
+            (Call::Grow { strategy, .. }, Reply::Granted { .. }) => grown.insert(strategy),
             (Call::Good { .. }, Reply::Done { value: 0 }) => done.insert("good"),
             (Call::Fault { .. }, Reply::Done { value: 0 }) => done.insert("fault"),
             (Call::Fault { .. }, Reply::Done { .. }) => done.insert("fault of a held node"),
@@ -51,7 +48,24 @@ fn the_sessions_have_every_kind_accepted_and_every_strategy_granted() {
         };
     }
     assert_eq!(granted, (0..=3).collect());
+    assert_eq!(grown, (0..=3).collect());
     assert_eq!(done.len(), 7, "{done:?}");
+}
+
+#[test]
+fn the_sessions_have_every_sort_of_growth() {
+    let mut sorts = Growths::default();
+    for n in 0..=10 {
+        let mut record = start(n);
+        for call in calls(n) {
+            let before = record;
+            let number = make(&mut record, call).number;
+            sorts.add(&frame_of(call), number, &before, &record);
+        }
+    }
+    for ((sort, _), count) in SORTS.iter().zip(sorts.0) {
+        assert_ne!(count, 0, "{sort}");
+    }
 }
 
 #[test]
