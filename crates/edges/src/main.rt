@@ -1,5 +1,7 @@
-// The edges of document 01, and the causes in pairs: where two rows of the table are met at once, the first wins. Each line has the number returned
-// and the six words of the reply buffer, which held 61166 in each before the call.
+// The edges of document 01, and the causes in pairs: where two rows of the table are met at once, the first wins; then those of relabels and growths.
+// Each line has the number returned and the six words of the reply buffer, which held 61166 in each before the call.
+mod growth_causes;
+mod growths;
 mod printed;
 mod relabels;
 
@@ -210,4 +212,7 @@ fn main() {
     smallest();
     pairs();
     relabels::relabels();
+    growth_causes::pairs();
+    growth_causes::smallest();
+    growths::growths();
 }

@@ -69,11 +69,57 @@ pub(crate) fn call_short(name: &[u8], rec: &mut [u8], frame: &[u8]) {
     );
 }
 
+// A frame of six bytes: its kind, low byte first, and one field.
+fn six(low: u8, high: u8, field: u16) -> [u8; 6] {
+    [6, 0, low, high, (field % 256) as u8, (field / 256) as u8]
+}
+
+// A frame of eight bytes, a request's or a growth's: the low byte of its kind, and the fields.
+fn eight(low: u8, job: u16, k: u8, strategy: u8) -> [u8; 8] {
+    [
+        8,
+        0,
+        low,
+        2,
+        (job % 256) as u8,
+        (job / 256) as u8,
+        k,
+        strategy,
+    ]
+}
+
+pub(crate) fn request(name: &[u8], rec: &mut [u8; record::SIZE], job: u16, k: u8, strategy: u8) {
+    call(name, rec, &eight(1, job, k, strategy));
+}
+
+pub(crate) fn grow(name: &[u8], rec: &mut [u8; record::SIZE], job: u16, k: u8, strategy: u8) {
+    call(name, rec, &eight(4, job, k, strategy));
+}
+
+pub(crate) fn release(name: &[u8], rec: &mut [u8; record::SIZE], job: u16) {
+    call(name, rec, &six(2, 2, job));
+}
+
+pub(crate) fn fault(name: &[u8], rec: &mut [u8; record::SIZE], x: u16) {
+    call(name, rec, &six(2, 1, x));
+}
+
 // 'good' of a node, with nothing printed.
 pub(crate) fn make_good(rec: &mut [u8], x: u16) {
     let mut reply = [238; 12];
-    let frame = [6, 0, 1, 1, (x % 256) as u8, (x / 256) as u8];
-    cube::cube_call(rec, &frame, &mut reply);
+    cube::cube_call(rec, &six(1, 1, x), &mut reply);
+}
+
+// A request by buddy, with nothing printed.
+pub(crate) fn hold(rec: &mut [u8; record::SIZE], job: u16, k: u8) {
+    let mut reply = [238; 12];
+    cube::cube_call(rec, &eight(1, job, k, 0), &mut reply);
+}
+
+// A release, with nothing printed.
+pub(crate) fn leave(rec: &mut [u8; record::SIZE], job: u16) {
+    let mut reply = [238; 12];
+    cube::cube_call(rec, &six(2, 2, job), &mut reply);
 }
 
 // The same for each node from `first` to the one before `end`.
