@@ -6,8 +6,8 @@
 use crate::patterns::{is_even, record, used, Pattern, Request};
 use crate::patterns::{BLOCKS, LATE, MIXED, SILENT, WEIGHTS};
 use crate::relabels::RECORDS;
-use crate::rows::{grow, Record, Row};
-use cube_proved::frame::request;
+use crate::rows::{Record, Row};
+use cube_proved::frame::{grow, request};
 use cube_proved::STRATEGIES;
 use cube_reference::record::{holder, set_condition, set_holder, FAULTY, GOOD};
 use cube_reference::rng::Rng;

@@ -134,8 +134,8 @@ fn zeros_before(alpha: u32, places: Range<u32>) -> u32 {
 
 #[cfg(test)]
 mod tests {
-    use crate::rows::{grow, Record};
-    use cube_proved::frame::request;
+    use crate::rows::Record;
+    use cube_proved::frame::{grow, request};
     use cube_reference::record::{set_condition, set_holder, set_map};
     use cube_reference::rng::Rng;
     use cube_reference::IDENTITY;

@@ -1,6 +1,6 @@
 //! The calls that are timed.
 
-use cube_proved::frame::{fault, frame, good, relabel, release, repaired, request};
+use cube_proved::frame::{fault, frame, good, grow, relabel, release, repaired, request};
 use cube_proved::STRATEGIES;
 use cube_reference as reference;
 use std::fmt;
@@ -36,11 +36,6 @@ impl fmt::Display for Row {
     fn fmt(&self, out: &mut fmt::Formatter) -> fmt::Result {
         out.pad(&format!("{}, n {}", self.name, self.n))
     }
-}
-
-/// The frame of a growth.
-pub fn grow(job: u16, k: u8, strategy: u8) -> Vec<u8> {
-    frame(0x0204, &request(job, k, strategy)[4..])
 }
 
 /// A row on the record that these calls leave.

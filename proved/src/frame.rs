@@ -22,8 +22,16 @@ pub fn relabel() -> Vec<u8> {
 }
 
 pub fn request(job: u16, k: u8, strategy: u8) -> Vec<u8> {
+    asking(0x0201, job, k, strategy)
+}
+
+pub fn grow(job: u16, k: u8, strategy: u8) -> Vec<u8> {
+    asking(0x0204, job, k, strategy)
+}
+
+fn asking(kind: u16, job: u16, k: u8, strategy: u8) -> Vec<u8> {
     let job = job.to_le_bytes();
-    frame(0x0201, &[job[0], job[1], k, strategy])
+    frame(kind, &[job[0], job[1], k, strategy])
 }
 
 pub fn release(job: u16) -> Vec<u8> {

@@ -16,11 +16,6 @@ pub struct Cube {
     strategy: u8,
 }
 
-/// The frame of a growth.
-pub fn grow(job: u16, k: u8, strategy: u8) -> Vec<u8> {
-    frame::frame(0x0204, &frame::request(job, k, strategy)[4..])
-}
-
 impl Cube {
     /// All nodes are reported good but the faulty ones; the map is the
     /// identity unless `relabel`.

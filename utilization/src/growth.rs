@@ -4,10 +4,10 @@
 use std::cmp::Reverse;
 use std::collections::{BinaryHeap, HashMap};
 
-use cube_proved::frame::request;
+use cube_proved::frame::{grow, request};
 use cube_reference::rng::Rng;
 
-use crate::cube::{grow, Cube, Subcube};
+use crate::cube::{Cube, Subcube};
 use crate::simulate::{exponential, job, Allocate, BETWEEN};
 use crate::study::{faulty, mean, on_all_processors, Case};
 
