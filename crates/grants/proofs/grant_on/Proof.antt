@@ -74,14 +74,14 @@ returns-2 : tie.Need-returns-2
 returns-2 c =
     let gave = c .before .before in
     let lost = gave .before .before .before .before in
-    let second = lost .before .before in
-    let first = second .before .before in
-    let told = first .before .before .before in
+    let stars = lost .before .before in
+    let low = stars .before .before in
+    let told = low .before .before .before in
     let walk = told .before .before in
     let load = walk .before .before .before in
     accepts _ _ _ refl
     (grant-found _ _ _ _ (walk .walk-of .ensures) _ _ (told .walk .given .1)
-    (load .load-map .ensures) _ (first .node-of .ensures) _ (second .stars-of .ensures))
+    (load .load-map .ensures) _ (low .node-of .ensures) _ (stars .stars-of .ensures))
     (lost-given _ (sized-decode _) _ (lost .lose .ensures) _ (gave .give .ensures))
 
 pub grant-on-spec : {M : Type 1} → statement M
