@@ -1,4 +1,4 @@
-// The six calls on a record's bytes where they lie.
+// The seven calls on a record's bytes where they lie.
 use state::Call;
 use state::Reply;
 use state::refused;

@@ -27,7 +27,8 @@ use Rattle.state.specs.declared.Reply.{Reply}
 use Rattle.state.specs.declared.Reply.the-variants.{Granted, Refused, Done}
 use Rattle.state.specs.declared.Step.{Step}
 use Rattle.state.specs.States as states
-use Rattle.state.specs.Acts.{numberOf, step, refuse, nodeCount, holds, anyHeld, reportStep, relabelStep, walkOf, grantStep, fieldCause, byFields, requestStep, heldBy, growStep, releaseStep}
+use Rattle.state.specs.Acts.{numberOf, step, refuse, nodeCount, holds, anyHeld, reportStep, relabelStep, walkOf, grantStep, fieldCause, byFields}
+use Rattle.state.specs.Acts.{requestStep, heldBy, growStep, releaseStep}
 use Rattle.state.proofs.Valid.{Valid}
 use Rattle.record.proofs.Round.{Sized}
 use Rattle.cube.proofs.Tested.{noneIn, rung, tests}
@@ -64,7 +65,8 @@ module _ (s : State) (z : Sized s) (w : Valid s) (c : Call) where
         → withCondition (view s) (put (entry (s .conditions)) (nodeField c) v) ≡ accept (s .n) k (view s) c
         → Does s c (step (states.withCondition s (nodeField c) v) (Done r)) none
     reports v r l q h =
-        let b : nodeField c < length (s .conditions) = rw (z .conditions) (lt-of-lt-of-le (ltb-true (nodeField c) (nodeCount s) l) (pow-mono (w .small))) in
+        let b : nodeField c < length (s .conditions) = rw (z .conditions)
+        (lt-of-lt-of-le (ltb-true (nodeField c) (nodeCount s) l) (pow-mono (w .small))) in
         accepts tt q (ap (withCondition (view s)) (entry-set (s .conditions) (nodeField c) v b) ∙ h)
 
   pub does-good : kind c ≡ good → Does s c (reportStep s (nodeField c) 1) (tests (s .n) (view s) c good)
@@ -85,7 +87,8 @@ module _ (s : State) (z : Sized s) (w : Valid s) (c : Call) where
   unfolding reportStep rung tell accept
   does-repaired e =
       cases (ltb (nodeField c) (nodeCount s))
-      (λ l. rw l (cases (eqb (getD (s .conditions) (nodeField c) 0) 2) (λ d. rw d (reports repaired e 0 0 l refl refl)) (λ d. rw d (refuses 12 refl))))
+      (λ l. rw l (cases (eqb (getD (s .conditions) (nodeField c) 0) 2) (λ d. rw d (reports repaired e 0 0 l refl refl))
+      (λ d. rw d (refuses 12 refl))))
       (λ l. rw l (refuses 8 refl))
 
   pub does-relabel : kind c ≡ relabel → Does s c (relabelStep s) (tests (s .n) (view s) c relabel)
@@ -104,7 +107,8 @@ module _ (s : State) (z : Sized s) (w : Valid s) (c : Call) where
 
   -- a request or a growth that meets no earlier cause, by its walk's answer: what it is told and does is the grant of that answer
   granted-or-none : (k : Kind) → kind c ≡ k → tell (s .n) k (view s) c ≡ grant (s .n) (view s) (job c) (chosen (s .n) (view s) (ask c))
-      → accept (s .n) k (view s) c ≡ give (s .n) (view s) (job c) (chosen (s .n) (view s) (ask c)) → dimension c ≤ s .n → (a : Walk) → chosen (s .n) (view s) (ask c) ≡ a
+      → accept (s .n) k (view s) c ≡ give (s .n) (view s) (job c) (chosen (s .n) (view s) (ask c)) → dimension c ≤ s .n → (a : Walk)
+      → chosen (s .n) (view s) (ask c) ≡ a
       → Does s c (grantStep s (job c) a) (rung (noneIn a) 14 none)
   unfolding rung
   granted-or-none k e tells makes fits (Found m t) q =

@@ -4,7 +4,8 @@ use mathlib.Core.Bool.{not, _||_}
 use lib.Dec.{eqb, ltb}
 use lib.ListN.{length}
 use Rattle.hypercube.proofs.Tests.{cases}
-use Rattle.history.specs.Calls.{Call, Kind, good, fault, repaired, relabel, request, release, grow, other, word, kindOf, lengthField, kind, nodeField, job, dimension, strategy, size}
+use Rattle.history.specs.Calls.{Call, Kind, good, fault, repaired, relabel, request, release, grow, other, word, kindOf, lengthField, kind}
+use Rattle.history.specs.Calls.{nodeField, job, dimension, strategy, size}
 use Rattle.state.specs.declared.State.{State}
 use Rattle.state.specs.declared.Call as alloc
 use Rattle.state.specs.declared.Call.the-variants.{Good, Fault, Repaired, Relabel, Request, Release, Grow}

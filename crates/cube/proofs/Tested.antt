@@ -13,7 +13,8 @@ use Rattle.hypercube.specs.declared.Walk.{Walk}
 use Rattle.hypercube.specs.declared.Walk.the-variants.{Found, NoneFree}
 use Rattle.hypercube.proofs.Tests.{Means, means-iff, means-eq, means-lt, means-le, means-not, means-and, means-or}
 use Rattle.hypercube.proofs.Search.{first-in}
-use Rattle.history.specs.Calls.{Call, Kind, good, fault, repaired, relabel, request, release, grow, other, Kind-discrete, lengthField, kind, nodeField, job, dimension, strategy, size, Ask, ask, reporting, naming, asking, holding}
+use Rattle.history.specs.Calls.{Call, Kind, good, fault, repaired, relabel, request, release, grow, other, Kind-discrete, lengthField, kind}
+use Rattle.history.specs.Calls.{nodeField, job, dimension, strategy, size, Ask, ask, reporting, naming, asking, holding}
 use Rattle.history.specs.Account.{History}
 use Rattle.history.specs.Causes.{Row, Decided, causes, nodesOf, NoMemberFree}
 use Rattle.history.specs.Verdicts.{firstMet, decided, cause, chosen}
@@ -111,7 +112,8 @@ module _ (n : ℕ) (h : History) (c : Call) where
   unfolding firstMet rung
   _above_ {r} {rs} {b} {o} m l = record { first = λ d. go b m (d .0) (l .first (d .1)) }
     where
-      go : (b : Bool) → Means b (r .Met h c) → (q : Dec (r .Met h c)) {p : Option ℕ} → p ≡ o → ite q (some (r .number)) p ≡ cond b (some (r .number)) o
+      go : (b : Bool) → Means b (r .Met h c) → (q : Dec (r .Met h c)) {p : Option ℕ} → p ≡ o
+          → ite q (some (r .number)) p ≡ cond b (some (r .number)) o
       go true m (yes p) e = refl
       go true m (no q) e = absurd (q (m .holds refl))
       go false m (yes p) e = absurd (false≢true (m .shows p))
@@ -136,7 +138,8 @@ module _ (n : ℕ) (h : History) (c : Call) where
       above means-and (means-one-of (kind c) holding) (means-not holds)
       above means-and (means-is (kind c) grow) (means-le (2 ^ dimension c) (nodesOf n h (job c)))
       above means-or (means-and goods fails) (means-and repairs (means-not fails))
-      above means-and (means-is (kind c) relabel) (means-some (λ x. not (eqb (h .holder x) 0)) (λ x. h .holder x ≢ 0) (2 ^ n) (λ x. means-not (means-eq (h .holder x) 0)))
+      above means-and (means-is (kind c) relabel) (means-some (λ x. not (eqb (h .holder x) 0)) (λ x. h .holder x ≢ 0) (2 ^ n)
+      (λ x. means-not (means-eq (h .holder x) 0)))
       above means-and (means-one-of (kind c) asking) (means-none n h (ask c))
       above ends
 

@@ -33,7 +33,8 @@ zeros (suc k) zero = refl
 zeros (suc k) (suc x) = zeros k x
 
 -- from any record that stands for a history within its bounds, whose holders are those of the subcubes held there
-module _ (n : ℕ) (small : n ≤ 10) (r : List ℕ) (s : History) (gs : List Held) (S₀ : Stands n s r) (B₀ : Bounded n s) (K₀ : Kept n s (s .holder) gs) where
+module _ (n : ℕ) (small : n ≤ 10) (r : List ℕ) (s : History) (gs : List Held) (S₀ : Stands n s r) (B₀ : Bounded n s)
+    (K₀ : Kept n s (s .holder) gs) where
   sound₀ : Sound n (s .condition) (s .directions)
   sound₀ = record { no-conditions = B₀ .no-conditions; conditions = B₀ .conditions; permutes = B₀ .permutes }
 
@@ -52,7 +53,8 @@ module _ (n : ℕ) (small : n ≤ 10) (r : List ℕ) (s : History) (gs : List He
   stands begin = S₀
   stands (es next e) = answers n (historyFrom n s es) (recordAfter delivered r es) small (bounded es) (stands es) e .next
 
-  answered : (es : Exchanges) (e : Exchange) → Answers n (verdict n (historyFrom n s es) (fed e)) (historyFrom n s (es next e)) e (recordAfter delivered r es)
+  answered : (es : Exchanges) (e : Exchange)
+      → Answers n (verdict n (historyFrom n s es) (fed e)) (historyFrom n s (es next e)) e (recordAfter delivered r es)
   answered es e = answers n (historyFrom n s es) (recordAfter delivered r es) small (bounded es) (stands es) e
 
   -- what is heard of a call is its verdict, so the subcubes held are the history's
@@ -93,7 +95,8 @@ module _ (n : ℕ) (small : n ≤ 10) (b : List ℕ) (whole : length b ≡ recor
   fresh-bounded : Bounded n fresh
   fresh-bounded = history-right n small start .bounded
 
-  pub heard-is : (es : Exchanges) (e : Exchange) → heard (number delivered (setupRecord b n) es e) (reply delivered (setupRecord b n) es e) ≡ verdict n (historyAt n es) (fed e)
+  pub heard-is : (es : Exchanges) (e : Exchange)
+      → heard (number delivered (setupRecord b n) es e) (reply delivered (setupRecord b n) es e) ≡ verdict n (historyAt n es) (fed e)
   heard-is = heard-from n small (setupRecord b n) fresh [] fresh-stands fresh-bounded (fresh-kept n)
 
   right : Demand3 delivered n b

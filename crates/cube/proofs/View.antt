@@ -62,11 +62,13 @@ entry-given l xs ys j e same b = fun-ext (λ y. ⊎-elim (inside y) (beyond y) (
     beyond : (y : ℕ) → 1024 ≤ y → getD (given l xs j) y 0 ≡ putAll (entry l) ys j y
     beyond y h =
         let out : among y ys ≡ false = sym (listed y) ∙ refutes (means-among y xs) (λ i. omega (arith, b y i)) in
-        rw (out, List·getD-eq-default l 0 {n = y} (omega arith)) (List·getD-eq-default (map f (from 0 1024)) 0 {n = y} (omega (arith, length-of f 0 1024)))
+        rw (out, List·getD-eq-default l 0 {n = y} (omega arith))
+        (List·getD-eq-default (map f (from 0 1024)) 0 {n = y} (omega (arith, length-of f 0 1024)))
 
 -- ---- the walk
 
-flagged-free : (s : State) (a : Ask) (l : ℕ) → l < 2 ^ s .n → flagged (flags (s .n) (s .map) (flag (s .conditions) (s .holders) (a .job))) l ≡ freeLabel (view s) a l
+flagged-free : (s : State) (a : Ask) (l : ℕ) → l < 2 ^ s .n
+    → flagged (flags (s .n) (s .map) (flag (s .conditions) (s .holders) (a .job))) l ≡ freeLabel (view s) a l
 flagged-free s a l b =
     ap (λ (z : ℕ). eqb z 1) (flags-free (s .n) (s .map) (flag (s .conditions) (s .holders) (a .job)) l b)
     ∙ flag-test (s .conditions) (s .holders) (a .job) (node (s .map) l)
@@ -74,4 +76,5 @@ flagged-free s a l b =
 -- a request's walk goes by the history's free labels
 pub walk-is : (s : State) (a : Ask) → s .n ≤ 10 → a .dimension ≤ s .n → walkOf s (a .job) (a .dimension) (a .strategy) ≡ chosen (s .n) (view s) a
 walk-is s a small b =
-    choice-same (a .strategy) (s .n) (a .dimension) (flagged (flags (s .n) (s .map) (flag (s .conditions) (s .holders) (a .job)))) (freeLabel (view s) a) small b (flagged-free s a)
+    choice-same (a .strategy) (s .n) (a .dimension) (flagged (flags (s .n) (s .map) (flag (s .conditions) (s .holders) (a .job))))
+    (freeLabel (view s) a) small b (flagged-free s a)

@@ -8,7 +8,7 @@ ghost use Rattle.record.specs.Layout.{validRecord};
 ghost use Rattle.cube.specs.Called.{delivered, SetUp, Called};
 ghost use Rattle.cube.specs.Carried.{CarriedFrame};
 
-// Document 01: "Set-up takes a buffer and n." 1 for a buffer that isn't 3088 bytes, then 7 for n above 10; a refused set-up writes nothing.
+// Document 01: "Set-up takes a buffer and n." 1 for a buffer that hasn't a record's size, then 7 for n above 10; a refused set-up writes nothing.
 #[no_mangle]
 pub extern "C" fn cube_setup(rec: &mut [u8], n: u32) -> u32
     ensures { λ m. ⌜ SetUp delivered (now (rec .entry)) n m (now (rec .exit)) ⌝ }

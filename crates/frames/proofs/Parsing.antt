@@ -55,7 +55,8 @@ module _ (n w : ℕ) (s : n ≡ size (kindOf w)) where
   has-field h l =
       rw s
       (by-number (λ k. 4 ≤ size k → 6 ≤ size k) w
-      (λ z t. omega arith) (λ z t. omega arith) (λ z t. omega arith) (λ z. absurd (l z)) (λ z t. omega arith) (λ z t. omega arith) (λ z t. omega arith)
+      (λ z t. omega arith) (λ z t. omega arith) (λ z t. omega arith) (λ z. absurd (l z)) (λ z t. omega arith) (λ z t. omega arith)
+      (λ z t. omega arith)
       (λ t. absurd (omega arith)) (omega arith))
 
   pub request-size : w ≡ 0x0201 → n ≡ 8
@@ -109,7 +110,7 @@ wrong-size : (f : List ℕ) (k : Kind) (c : Call) → length f ≢ size k → Ba
 unfolding sized
 wrong-size f k c e = simp (ne-eqb _ _ e)
 
--- only a kind that is none of the six has size 0
+-- only a kind that is none of the seven has size 0
 none-known : (f : List ℕ) (k : Kind) → size k ≡ 0 → Bad 4 ≡ byKind f k
 unfolding byKind
 none-known f good e = absurd (omega arith)

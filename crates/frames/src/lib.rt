@@ -34,7 +34,7 @@ const RELEASE: u16 = 0x0202;
 
 const GROW: u16 = 0x0204;
 
-// The length of a kind, and 0 for a number that is none of the six.
+// The length of a kind, and 0 for a number that is none of the seven.
 fn size_of(kind: u16) -> usize
     ensures { λ r. ⌜ r ≡ size (kindOf kind) ⌝ }
 {

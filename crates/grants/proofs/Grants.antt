@@ -1,4 +1,5 @@
--- The walk of a request or a growth over the flags of a state, and the member that it finds: its nodes are a subcube's, with no star in the lowest. Assumes nothing.
+-- The walk of a request or a growth over the flags of a state, and the member that it finds: its nodes are a subcube's, with no star in the lowest.
+-- Assumes nothing.
 use Prim.Native.Nat.{ℕ, _^_, _<_, _≤_}
 use mathlib.Core.Path.{_≡_, ap, _∙_}
 use mathlib.Core.List.{List}

@@ -47,8 +47,8 @@ fn lose(rec: &mut [u8], job: u16, held: u16)
     nodes::clear(rec, steps::nodes_of(rec), job);
 }
 
-// The grant of the first free member, by its lowest node and its star bits: "star bits too, are given in node numbers". `held` is how many nodes the job
-// has, which it loses.
+// The grant of the first free member, by its lowest node and its star bits: "star bits too, are given in node numbers". `held` is how many nodes
+// the job has, which it loses.
 fn grant_on(rec: &mut [u8], job: u16, held: u16, k: u8, strategy: u8) -> Reply
     requires { ⌜ Holding (now rec) job held × (k ≤ decode (now rec) .n) ⌝ }
     ensures { λ r. ⌜ Grants (now (rec .entry)) job k strategy r (now (rec .exit)) ⌝ }

@@ -102,7 +102,8 @@ module _ (n : ℕ) (small : n ≤ 10) (b : List ℕ) (whole : length b ≡ recor
   later-told : (es : Exchanges) (f : List ℕ) → laterOutcome (recordAfter delivered (setupRecord b n) es) f ≡ outcomeBy n es f
   unfolding laterOutcome
   later-told es f =
-      read-heard (number delivered (setupRecord b n) es (calls f)) (reply delivered (setupRecord b n) es (calls f)) _ (heard-is n small b whole es (calls f))
+      read-heard (number delivered (setupRecord b n) es (calls f)) (reply delivered (setupRecord b n) es (calls f)) _
+      (heard-is n small b whole es (calls f))
       (demand3 n small b whole .list .calls es (calls f) .replied)
 
   -- the lines of the frames, up to m of them, and what is printed of the rest

@@ -79,6 +79,7 @@ module _ {p : Part} {f : ℕ → ℕ} {i : ℕ} {r : List ℕ} where
         ∙ ap (λ (l : List ℕ). encode (p .put s l)) (swept-all m (W .swept) e (λ k b. meant k) (λ k g b. h k g b ∙ sym (meant k b)))
 
 -- the next holder is as it was
-pub holder-next : {s : State} {f : ℕ → ℕ} {i : ℕ} {r : List ℕ} → Sized s → Sweeping the-holders s f i r → i < 1024 → word r (holdersAt + 2 * i) ≡ getD (s .holders) i 0
+pub holder-next : {s : State} {f : ℕ → ℕ} {i : ℕ} {r : List ℕ} → Sized s → Sweeping the-holders s f i r → i < 1024
+    → word r (holdersAt + 2 * i) ≡ getD (s .holders) i 0
 holder-next {s} {f} {i} {r} z W h =
     sym (decode-holder r i h) ∙ ap (λ (t : State). getD (t .holders) i 0) (said z W) ∙ W .swept .rest i (omega arith)

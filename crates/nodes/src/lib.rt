@@ -114,7 +114,8 @@ pub fn count_held(bytes: &[u8], size: usize, job: u16) -> u16
     count
 }
 
-// Node y's holder once the job has the subcube with this lowest node and these star bits: y is one of its nodes where its other bits are the lowest's.
+// Node y's holder once the job has the subcube with this lowest node and these star bits: y is one of its nodes where its other bits are the
+// lowest's.
 fn after_grant(y: u16, first: u16, stars: u16, job: u16, holder: u16) -> u16
     requires { ⌜ (y < 1024) × (first < 1024) ⌝ }
     ensures { λ r. ⌜ r ≡ cond (eqb (first + bitAnd y stars) y) job holder ⌝ }
@@ -132,7 +133,8 @@ fn after_grant(y: u16, first: u16, stars: u16, job: u16, holder: u16) -> u16
 pub fn give(bytes: &mut [u8], low: Node, stars: u16, job: u16)
     requires { ⌜ (length (now bytes) ≡ recordSize) × (headRight (now bytes) ≡ true) ⌝ }
     requires { ⌜ LowestOf stars (low .0) ⌝ }
-    ensures { λ _. ⌜ now (bytes .exit) ≡ encode (withHolders (decode (now (bytes .entry))) (given (decode (now (bytes .entry)) .holders) (vertices width stars (low .0)) job)) ⌝ }
+    ensures { λ _. ⌜ now (bytes .exit) ≡ encode (withHolders (decode (now (bytes .entry)))
+        (given (decode (now (bytes .entry)) .holders) (vertices width stars (low .0)) job)) ⌝ }
 {
     let first = low.0;
     let end = (first + stars) as usize + 1;
@@ -171,8 +173,8 @@ pub fn clear(bytes: &mut [u8], size: usize, job: u16)
     }
 }
 
-// The flags of the nodes below `size` where a job asks, by node, put into flags that are 0 from there up. Condition and holder are read at every node, so the loop
-// compiles to vector code.
+// The flags of the nodes below `size` where a job asks, by node, put into flags that are 0 from there up. Condition and holder are read at every
+// node, so the loop compiles to vector code.
 pub fn flags_by_node(bytes: &[u8], size: usize, job: u16, flags: &mut [u8; 1024])
     requires { ⌜ (length (now bytes) ≡ recordSize) × (size ≤ 1024) ⌝ }
     requires { ⌜ EmptyFrom (now flags) size ⌝ }

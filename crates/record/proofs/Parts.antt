@@ -65,10 +65,12 @@ module _ (r : List ℕ) (N : ℕ) (long : length r ≡ recordSize) (few : N ≤ 
       )
 
   -- whether any of the N nodes is held, by their holders' bytes
-  pub any-held : {b : Bool} → b ≡ allZero (part r holdersAt (holdersAt + 2 * N)) → not b ≡ anyBelow (λ x. not (eqb (getD (decode r .holders) x 0) 0)) N
+  pub any-held : {b : Bool} → b ≡ allZero (part r holdersAt (holdersAt + 2 * N))
+      → not b ≡ anyBelow (λ x. not (eqb (getD (decode r .holders) x 0) 0)) N
   any-held e =
       let test : ℕ → Bool = λ x. eqb (getD (decode r .holders) x 0) 0 in
-      ap not (e ∙ same-test (means-unheld 0 N few) (means-each test (λ x. getD (decode r .holders) x 0 ≡ 0) N (λ x l. means-eq (getD (decode r .holders) x 0) 0))
+      ap not (e ∙ same-test (means-unheld 0 N few) (means-each test (λ x. getD (decode r .holders) x 0 ≡ 0) N
+      (λ x l. means-eq (getD (decode r .holders) x 0) 0))
       (λ h x l. h x (omega arith) l, λ h x g l. h x l))
       ∙ sym (any-not test N)
 

@@ -1,4 +1,5 @@
--- A state and its record say the same: decode undoes encode where the arrays have their lengths, and encode undoes decode on a record's bytes whose head is right.
+-- A state and its record say the same: decode undoes encode where the arrays have their lengths, and encode undoes decode on a record's bytes whose
+-- head is right.
 -- Assumes nothing.
 use Prim.Native.Nat.{ℕ, zero, suc, _+_, _*_, _%_, _/_, _-_, _<_, _≤_}
 use mathlib.Core.Path.{_≡_, refl, sym, ap, subst, _∙_}
@@ -133,7 +134,8 @@ pub encoded-long : {r : List ℕ} → Encoded r → length r ≡ recordSize
 encoded-long {r} e = ap length (sym e) ∙ length-encode (decode r) (sized-decode r)
 
 -- the state made of what was read, part by part
-pub decode-parts : (r : List ℕ) (m : ℕ) (ds hs cs : List ℕ) → m ≡ decode r .n → ds ≡ decode r .map → hs ≡ decode r .holders → cs ≡ decode r .conditions
+pub decode-parts : (r : List ℕ) (m : ℕ) (ds hs cs : List ℕ) → m ≡ decode r .n → ds ≡ decode r .map → hs ≡ decode r .holders
+    → cs ≡ decode r .conditions
     → record { n = m; map = ds; holders = hs; conditions = cs } ≡ decode r
 decode-parts r m ds hs cs e d h c = rw (e, d, h, c)
 
@@ -183,10 +185,12 @@ unfolding word
 word-high r i b = omega arith
 
 -- a byte among the holders is the low or the high one of a holder
-pub each-holder : (P : ℕ → Type 0) (i : ℕ) → holdersAt ≤ i → i < conditionsAt → ((x : ℕ) → x < 1024 → holdersAt + 2 * x ≤ i → i ≤ holdersAt + 2 * x + 1 → P (holdersAt + 2 * x) × P (holdersAt + 2 * x + 1)) → P i
+pub each-holder : (P : ℕ → Type 0) (i : ℕ) → holdersAt ≤ i → i < conditionsAt
+    → ((x : ℕ) → x < 1024 → holdersAt + 2 * x ≤ i → i ≤ holdersAt + 2 * x + 1 → P (holdersAt + 2 * x) × P (holdersAt + 2 * x + 1)) → P i
 each-holder P i a b h =
     let both = h ((i - 16) / 2) (omega arith) (omega arith) (omega arith) in
-    ⊎-elim (λ (e : (i - 16) % 2 < 1). subst P (omega arith) (both .0)) (λ (e : 1 ≤ (i - 16) % 2). subst P (omega arith) (both .1)) (lt-or ((i - 16) % 2) 1)
+    ⊎-elim (λ (e : (i - 16) % 2 < 1). subst P (omega arith) (both .0)) (λ (e : 1 ≤ (i - 16) % 2). subst P (omega arith) (both .1))
+    (lt-or ((i - 16) % 2) 1)
 
 -- a record's bytes with a right head
 module _ (r : List ℕ) (long : length r ≡ recordSize) (bytes : (i : ℕ) → getD r i 0 < 256) (right : headRight r ≡ true) where

@@ -1,5 +1,5 @@
--- The record's bytes. Document 01, "Node and record": "The record is 3088 bytes, all fields little-endian: length 3088 (2 bytes), kind 0x0001 (2), n (1),
--- the map (10 [..]), a zero byte, 1024 holders (2 each), 1024 conditions (1 each)."
+-- The record's bytes. Document 01, "Node and record": "The record is 3088 bytes, all fields little-endian: length 3088 (2 bytes), kind 0x0001 (2),
+-- n (1), the map (10 [..]), a zero byte, 1024 holders (2 each), 1024 conditions (1 each)."
 use Prim.Native.Nat.{ℕ, _+_, _*_, _%_, _/_}
 use mathlib.Core.Path.{_≡_}
 use mathlib.Core.Bool.{Bool, _&&_}

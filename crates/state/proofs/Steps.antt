@@ -25,7 +25,8 @@ use Rattle.state.specs.declared.Step.{Step}
 use Rattle.state.specs.declared.Reply.the-variants.{Granted, Refused, Done}
 use Rattle.state.specs.States.{withCondition, withMap, withHolders, given, cleared}
 use Rattle.state.specs.Valid.{anyBelow, valid}
-use Rattle.state.specs.Acts.{step, refuse, nodeCount, holds, anyHeld, allowed, toldOf, reportStep, relabelStep, walkOf, grantStep, fieldCause, byFields, requestStep, heldBy, growStep, releaseStep, acted, called}
+use Rattle.state.specs.Acts.{step, refuse, nodeCount, holds, anyHeld, allowed, toldOf, reportStep, relabelStep, walkOf, grantStep, fieldCause}
+use Rattle.state.specs.Acts.{byFields, requestStep, heldBy, growStep, releaseStep, acted, called}
 use Rattle.state.specs.Walked.{triedIn}
 use Rattle.state.proofs.Below.{any-counted}
 
@@ -83,7 +84,8 @@ module _ (s : State) (N : ℕ) (e : N ≡ nodeCount s) (b : Bool) (q : b ≡ any
   unfolding relabelStep
   relabel-13 y = rw (sym held ∙ y, relabelStep)
 
-  pub relabel-done : (r : Relabelled) → r ≡ relabelling (s .n) (s .conditions) → b ≡ false → step (withMap s (r .map)) (Done (r .size)) ≡ relabelStep s
+  pub relabel-done : (r : Relabelled) → r ≡ relabelling (s .n) (s .conditions) → b ≡ false
+      → step (withMap s (r .map)) (Done (r .size)) ≡ relabelStep s
   unfolding relabelStep
   relabel-done r h y = rw (h, sym held ∙ y, relabelStep)
 

@@ -1,4 +1,4 @@
--- What the six calls do to a state.
+-- What the seven calls do to a state.
 pub mod States
 pub mod Valid
 pub mod Walked

@@ -18,7 +18,7 @@ pub struct State {
     pub conditions: [u8; 1024],
 }
 
-// The calls (document 01, "Six calls and their frames").
+// The calls (document 01, "Six calls and their frames"; a growth by document 02, (e)).
 pub enum Call {
     Good(Node),
     Fault(Node),

@@ -118,11 +118,13 @@ module _ (b : List ℕ) (whole : length b ≡ recordSize) where
     valid-one = rw at-one (one-node .list .recorded one .valid)
 
     -- and after it, where it is told the same number and leaves the same state
-    module _ (s : State) (e : decode (recordAfter (byRequests q) (setupRecord b 1) two) ≡ s) (a : numberOf (q s 1 0 0 .reply) ≡ numberOf (requestStep s 1 0 0 .reply))
+    module _ (s : State) (e : decode (recordAfter (byRequests q) (setupRecord b 1) two) ≡ s)
+        (a : numberOf (q s 1 0 0 .reply) ≡ numberOf (requestStep s 1 0 0 .reply))
         (left : q s 1 0 0 .state ≡ requestStep s 1 0 0 .state) where
       at-later : recordAfter (byRequests q) (setupRecord b 1) (two next asks 1) ≡ recordAfter delivered (setupRecord b 1) (two next asks 1)
       at-later =
-          same-record (requesting q) _ (asks 1) (Request 1 0 0) parsed-job-1 (rw at-two (two-nodes .list .recorded two .valid)) refl (rw e a) (rw e left)
+          same-record (requesting q) _ (asks 1) (Request 1 0 0) parsed-job-1 (rw at-two (two-nodes .list .recorded two .valid)) refl (rw e a)
+          (rw e left)
           ∙ ap (λ (r : List ℕ). delivered .call-record r (asks 1 .frame) (asks 1 .buffer)) at-two
 
       valid-later : validRecord (recordAfter (byRequests q) (setupRecord b 1) (two next asks 1)) ≡ true
@@ -152,7 +154,8 @@ module _ (b : List ℕ) (whole : length b ≡ recordSize) where
 
   -- ---- disjoint
 
-  told-lowest : (es : Exchanges) → validRecord (recordAfter (byRequests lowest) (setupRecord b 0) es) ≡ true → (j : ℕ) → parsed (asks j .frame) ≡ Known (Request j 0 0)
+  told-lowest : (es : Exchanges) → validRecord (recordAfter (byRequests lowest) (setupRecord b 0) es) ≡ true → (j : ℕ)
+      → parsed (asks j .frame) ≡ Known (Request j 0 0)
       → heard (number (byRequests lowest) (setupRecord b 0) es (asks j)) (reply (byRequests lowest) (setupRecord b 0) es (asks j)) ≡ granted j 0 0 1
   unfolding frameOf
   told-lowest es v j e =

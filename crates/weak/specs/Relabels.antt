@@ -49,7 +49,8 @@ notFaulty cs x = not (eqb (getD cs x 0) 2)
 
 -- 2 and 3: the record's map is the history's
 abbrev pub MapRight : Program → ℕ → List ℕ → Type 0
-MapRight P n b = (es : Exchanges) (i : ℕ) → i < n → getD (recordAfter P (P .setup-record b n) es) (mapAt + i) 0 ≡ getD (historyAt n es .directions) i 0
+MapRight P n b =
+    (es : Exchanges) (i : ℕ) → i < n → getD (recordAfter P (P .setup-record b n) es) (mapAt + i) 0 ≡ getD (historyAt n es .directions) i 0
 
 -- on any buffer of the record's size, b: the size of D is told wrong; it is told right and the map is wrong
 pub record RelabelsRefuted (b : List ℕ) : Type 0 where

@@ -1,6 +1,7 @@
 -- The call of a frame of its kind's size, by the number of the kind. Assumes nothing.
 use native.Mathlib.Omega.{arith}
-use Rattle.frames.proofs.Parsing.{has-field, request-size, grow-size, known-grow, known-relabel, known-good, known-fault, known-repaired, known-request, known-release}
+use Rattle.frames.proofs.Parsing.{has-field, request-size, grow-size, known-grow, known-relabel, known-good, known-fault, known-repaired}
+use Rattle.frames.proofs.Parsing.{known-request, known-release}
 use Rattle.frames.proofs.call_of.Statement.{statement}
 use Rattle.frames.proofs.call_of.Tie as tie
 
@@ -53,7 +54,8 @@ returns-7 : tie.Need-returns-7
 returns-7 c =
     let n = c .match .rest in
     let p = c .before .before .before .before .pre in
-    known-release _ _ (p .right) _ (c .before .word .ensures) (p .whole) (n .0 .0 .0 .0 .1) (n .0 .0 .0 .1) (n .0 .0 .1) (c .before .before .if1 .left) (n .0 .1) (n .1)
+    known-release _ _ (p .right) _ (c .before .word .ensures) (p .whole) (n .0 .0 .0 .0 .1) (n .0 .0 .0 .1) (n .0 .0 .1)
+    (c .before .before .if1 .left) (n .0 .1) (n .1)
 
 pub call-of-spec : {M : Type 1} → statement M
 call-of-spec =

@@ -1,4 +1,4 @@
--- The size of each of the six kinds, and 0 of any other. Assumes nothing.
+-- The size of each of the seven kinds, and 0 of any other. Assumes nothing.
 use mathlib.Core.Path.{sym, ap}
 use Rattle.history.specs.Calls.{kindOf, size}
 use Rattle.frames.proofs.Parsing.{kind-other}

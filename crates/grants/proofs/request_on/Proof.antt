@@ -18,7 +18,8 @@ same-length : tie.Need-same-length
 same-length c = search needs
 
 returns : tie.Need-returns
-returns c = refuses _ _ (c .before .if1 .taken) (request-fields _ _ _ _ (c .before .before .field-cause .ensures) (c .before .if1 .taken)) (c .refused .ensures)
+returns c = refuses _ _ (c .before .if1 .taken) (request-fields _ _ _ _ (c .before .before .field-cause .ensures) (c .before .if1 .taken))
+    (c .refused .ensures)
 
 nodes-of-requires : tie.Need-nodes-of-requires
 nodes-of-requires c κs = search needs

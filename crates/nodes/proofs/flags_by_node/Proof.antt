@@ -61,7 +61,8 @@ loop-again c =
     let l = at .loop in
     let v : c .flag-of .result ≡ flagIn r (a .job) (l .x) =
     c .flag-of .ensures
-    ∙ ap₂ (λ (d h : ℕ). flagOf d h (a .job)) (sym (decode-condition r (l .x) (omega arith))) (c .before .word .ensures ∙ sym (decode-holder r (l .x) (omega arith))) in
+    ∙ ap₂ (λ (d h : ℕ). flagOf d h (a .job)) (sym (decode-condition r (l .x) (omega arith)))
+    (c .before .word .ensures ∙ sym (decode-holder r (l .x) (omega arith))) in
     (swept-put _ (l .inv .0) (omega arith) v, omega arith, omega arith)
 
 returns : tie.Need-returns Inv-loop μ-loop

@@ -19,7 +19,8 @@ module _ (r : List ℕ) (long : length r ≡ recordSize) where
 
   conditions : part r conditionsAt conditionsEnd ≡ decode r .conditions
   unfolding decode
-  conditions = is-each (λ x. getD r (conditionsAt + x) 0) 1024 (part r conditionsAt conditionsEnd) entries (part-at r conditionsAt conditionsEnd (omega arith))
+  conditions = is-each (λ x. getD r (conditionsAt + x) 0) 1024 (part r conditionsAt conditionsEnd) entries
+      (part-at r conditionsAt conditionsEnd (omega arith))
 
   relabelled : {n : ℕ} → n ≡ decode r .n → relabelling n (part r conditionsAt conditionsEnd) ≡ relabelling (decode r .n) (decode r .conditions)
   relabelled e = rw (e, conditions)
