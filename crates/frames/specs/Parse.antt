@@ -2,6 +2,7 @@
 use Prim.Native.Nat.{ℕ}
 use mathlib.Core.Bool.{not, cond, _||_}
 use mathlib.Core.List.{List}
+use mathlib.Core.Option.{Option, none, some}
 use lib.Dec.{eqb, ltb}
 use lib.ListN.{length, getD}
 use Rattle.history.specs.Calls.{Kind, good, fault, repaired, relabel, request, release, grow, other, word, kindOf, size}
@@ -13,19 +14,24 @@ use Rattle.state.specs.Acts.{refuse, acted}
 use Rattle.frames.specs.declared.Parsed.{Parsed}
 use Rattle.frames.specs.declared.Parsed.the-variants.{Known, Bad}
 
--- a frame of a known kind: its fields, if its size is its kind's
-unfoldable pub sized : List ℕ → Kind → Call → Parsed
-sized f k c = cond (eqb (length f) (size k)) (Known c) (Bad 5)
+-- the call of a kind, by its fields
+unfoldable pub callOf : List ℕ → Kind → Option Call
+callOf f good = some (Good (record { 0 = word f 4 }))
+callOf f fault = some (Fault (record { 0 = word f 4 }))
+callOf f repaired = some (Repaired (record { 0 = word f 4 }))
+callOf f relabel = some Relabel
+callOf f request = some (Request (word f 4) (getD f 6 0) (getD f 7 0))
+callOf f release = some (Release (word f 4))
+callOf f grow = some (Grow (word f 4) (getD f 6 0) (getD f 7 0))
+callOf f other = none
 
-unfoldable pub byKind : List ℕ → Kind → Parsed
-byKind f good = sized f good (Good (record { 0 = word f 4 }))
-byKind f fault = sized f fault (Fault (record { 0 = word f 4 }))
-byKind f repaired = sized f repaired (Repaired (record { 0 = word f 4 }))
-byKind f relabel = sized f relabel Relabel
-byKind f request = sized f request (Request (word f 4) (getD f 6 0) (getD f 7 0))
-byKind f release = sized f release (Release (word f 4))
-byKind f grow = sized f grow (Grow (word f 4) (getD f 6 0) (getD f 7 0))
-byKind f other = Bad 4
+-- cause 4 where the kind has no call, then cause 5 where the frame's size isn't the kind's
+unfoldable pub sized : List ℕ → Kind → Option Call → Parsed
+sized f k none = Bad 4
+sized f k (some c) = cond (eqb (length f) (size k)) (Known c) (Bad 5)
+
+abbrev pub byKind : List ℕ → Kind → Parsed
+byKind f k = sized f k (callOf f k)
 
 unfoldable pub parsed : List ℕ → Parsed
 parsed f = cond (ltb (length f) 4 || not (eqb (word f 0) (length f))) (Bad 3) (byKind f (kindOf (word f 2)))

@@ -5,7 +5,7 @@ use mathlib.Core.List.{List}
 use lib.ListN.{length, set}
 use Rattle.history.specs.Calls.{kindOf, size}
 
--- the frame f has the size of the kind of w, one of the seven: the smallest has 4
+-- the frame f has the size of the kind of w, one of the table's: the smallest has 4
 pub record RightSize (f : List ℕ) (w : ℕ) : Type 0 where
   pub whole : 4 ≤ length f
   pub right : length f ≡ size (kindOf w)

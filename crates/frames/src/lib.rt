@@ -4,12 +4,12 @@ use record::word;
 use state::Call;
 use state::Reply;
 ghost use mathlib.Core.Path.{_≡_};
+ghost use mathlib.Core.Option.{some};
 ghost use Prim.Native.Nat.{_+_, _*_, _≤_, _<_};
 ghost use lib.ListN.{length};
 ghost use Rattle.history.specs.Calls.{kindOf, size};
 ghost use Rattle.record.specs.Layout.{words};
-ghost use Rattle.frames.specs.declared.Parsed.the-variants.{Known};
-ghost use Rattle.frames.specs.Parse.{byKind, parsed};
+ghost use Rattle.frames.specs.Parse.{callOf, parsed};
 ghost use Rattle.frames.specs.Answer.{frameOf, written};
 ghost use Rattle.frames.specs.Parts.{RightSize, putWord};
 
@@ -19,7 +19,7 @@ pub enum Parsed {
     Bad(u16),
 }
 
-// The six kinds.
+// The kinds' numbers.
 const GOOD: u16 = 0x0101;
 
 const FAULT: u16 = 0x0102;
@@ -34,7 +34,7 @@ const RELEASE: u16 = 0x0202;
 
 const GROW: u16 = 0x0204;
 
-// The length of a kind, and 0 for a number that is none of the seven.
+// The length of a kind, and 0 for a number that is none of these.
 fn size_of(kind: u16) -> usize
     ensures { λ r. ⌜ r ≡ size (kindOf kind) ⌝ }
 {
@@ -53,7 +53,7 @@ fn size_of(kind: u16) -> usize
 // The call of a frame whose size is its kind's.
 fn call_of(frame: &[u8], kind: u16) -> Call
     requires { ⌜ RightSize (now frame) kind ⌝ }
-    ensures { λ r. ⌜ Known r ≡ byKind (now (frame .entry)) (kindOf kind) ⌝ }
+    ensures { λ r. ⌜ some r ≡ callOf (now (frame .entry)) (kindOf kind) ⌝ }
 {
     if kind == RELABEL {
         return Call::Relabel;

@@ -17,7 +17,7 @@ use Rattle.history.specs.Verdicts.{granted, refused, done, firstMet, decided, c
 use Rattle.history.specs.Held.{Held, without, held}
 use Rattle.state.specs.declared.Call.the-variants.{Good, Relabel, Request, Grow}
 use Rattle.frames.specs.declared.Parsed.the-variants.{Known}
-use Rattle.frames.specs.Parse.{sized, byKind, parsed}
+use Rattle.frames.specs.Parse.{callOf, sized, parsed}
 use Rattle.cube.specs.Run.{Exchange, Exchanges, begin, _next_, fed, feed, historyAt}
 
 -- a frame with twelve zeros to reply in
@@ -58,31 +58,31 @@ abbrev pub shared : Exchanges
 shared = two next asks 1 next asks 2
 
 pub parsed-0 : parsed (good 0 .frame) ≡ Known (Good (record { 0 = 0 }))
-unfolding parsed byKind sized word kindOf
+unfolding parsed callOf sized word kindOf
 parsed-0 = refl
 
 pub parsed-1 : parsed (good 1 .frame) ≡ Known (Good (record { 0 = 1 }))
-unfolding parsed byKind sized word kindOf
+unfolding parsed callOf sized word kindOf
 parsed-1 = refl
 
 pub parsed-2 : parsed (good 2 .frame) ≡ Known (Good (record { 0 = 2 }))
-unfolding parsed byKind sized word kindOf
+unfolding parsed callOf sized word kindOf
 parsed-2 = refl
 
 pub parsed-job-1 : parsed (asks 1 .frame) ≡ Known (Request 1 0 0)
-unfolding parsed byKind sized word kindOf
+unfolding parsed callOf sized word kindOf
 parsed-job-1 = refl
 
 pub parsed-job-2 : parsed (asks 2 .frame) ≡ Known (Request 2 0 0)
-unfolding parsed byKind sized word kindOf
+unfolding parsed callOf sized word kindOf
 parsed-job-2 = refl
 
 pub parsed-relabel : parsed (relabels .frame) ≡ Known Relabel
-unfolding parsed byKind sized word kindOf
+unfolding parsed callOf sized word kindOf
 parsed-relabel = refl
 
 pub parsed-grow : parsed (grows .frame) ≡ Known (Grow 1 1 0)
-unfolding parsed byKind sized word kindOf
+unfolding parsed callOf sized word kindOf
 parsed-grow = refl
 
 -- job j's subcube of node x alone, granted after the calls l

@@ -1,8 +1,7 @@
 -- The first of causes 3 to 5 that a frame meets, or its call. Assumes nothing.
-use mathlib.Core.Path.{_∙_}
 use native.Mathlib.Omega.{arith}
 use borrow.Author.Needs.{needs}
-use Rattle.frames.proofs.Parsing.{cause-3-short, cause-3-length, cause-4, cause-5, parsed-kind}
+use Rattle.frames.proofs.Parsing.{cause-3-short, cause-3-length, cause-4, cause-5, known}
 use Rattle.frames.proofs.parse.Statement.{statement}
 use Rattle.frames.proofs.parse.Tie as tie
 
@@ -34,7 +33,7 @@ call-of-requires : tie.Need-call-of-requires
 call-of-requires c κs = search needs
 
 returns-5 : tie.Need-returns-5
-returns-5 c = c .call-of .ensures ∙ parsed-kind _ (omega arith) (omega arith) _ (c .before .before .before .before .word2 .ensures)
+returns-5 c = known _ (omega arith) (omega arith) _ (c .before .before .before .before .word2 .ensures) _ (c .call-of .ensures) (omega arith)
 
 pub parse-spec : {M : Type 1} → statement M
 parse-spec =
