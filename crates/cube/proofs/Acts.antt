@@ -140,7 +140,7 @@ module _ (s : State) (z : Sized s) (w : Valid s) (c : Call) where
   walks : (k : Kind) → kind c ≡ k → tell (s .n) k (view s) c ≡ grant (s .n) (view s) (job c) (chosen (s .n) (view s) (ask c))
       → accept (s .n) k (view s) c ≡ give (s .n) (view s) (job c) (chosen (s .n) (view s) (ask c)) → dimension c ≤ s .n
       → Does s c (grantStep s (job c) (walkOf s (job c) (dimension c) (strategy c))) (rung (noneIn (chosen (s .n) (view s) (ask c))) 14 none)
-  walks k e tells makes fits = rw (walk-is s (ask c) (w .small) fits) (granted-or-none k e tells makes fits (chosen (s .n) (view s) (ask c)) refl)
+  walks k e tells makes fits = rw (walk-is s (ask c)) (granted-or-none k e tells makes fits (chosen (s .n) (view s) (ask c)) refl)
 
   pub does-request : kind c ≡ request → Does s c (requestStep s (job c) (dimension c) (strategy c)) (tests (s .n) (view s) c request)
   unfolding requestStep rung tell accept

@@ -1,27 +1,22 @@
 -- A state read as a history; what a call changes in a state, it changes in what is read. Assumes nothing.
-use mathlib.Core.Path.{_≡_, sym, ap, _∙_, subst, fun-ext}
+use mathlib.Core.Path.{_≡_, refl, sym, ap, _∙_, subst, fun-ext}
 use mathlib.Core.Logic.{_↔_, ⊎-elim}
 use mathlib.Core.Bool.{Bool, false, cond}
 use mathlib.Core.List.{List, map}
-use Prim.Native.Nat.{ℕ, _^_, _<_, _≤_}
+use Prim.Native.Nat.{ℕ, _<_, _≤_}
 use native.Mathlib.Omega.{arith}
 use borrow.Author.Tests.{eqb-true, eqb-false}
 use lib.Dec.{eqb}
 use lib.ListN.{length, getD, set, List·getD-eq-default, List·getD-map}
 use lib.Seq.{getD-set-same, getD-set-other}
 use Rattle.hypercube.specs.Lists.{In, among, from}
-use Rattle.hypercube.specs.Labels.{node}
 use Rattle.hypercube.proofs.Bits.{lt-or}
 use Rattle.hypercube.proofs.Lists.{length-of, getD-each}
 use Rattle.hypercube.proofs.Tests.{cases, either-way, refutes, same-test}
-use Rattle.hypercube.proofs.Families.{choice-same}
 use Rattle.history.specs.Calls.{Ask}
 use Rattle.history.specs.Verdicts.{chosen}
-use Rattle.history.specs.Account.{History, put, putAll, wipe, freeLabel}
+use Rattle.history.specs.Account.{History, put, putAll, wipe}
 use Rattle.history.proofs.Counting.{means-among}
-use Rattle.labels.specs.Flags.{flag, flags}
-use Rattle.labels.proofs.Flags.{flags-free, flag-test}
-use Rattle.runs.specs.Flagged.{flagged}
 use Rattle.state.specs.declared.State.{State}
 use Rattle.state.specs.States.{given, cleared}
 use Rattle.state.specs.Acts.{walkOf}
@@ -67,14 +62,6 @@ entry-given l xs ys j e same b = fun-ext (λ y. ⊎-elim (inside y) (beyond y) (
 
 -- ---- the walk
 
-flagged-free : (s : State) (a : Ask) (l : ℕ) → l < 2 ^ s .n
-    → flagged (flags (s .n) (s .map) (flag (s .conditions) (s .holders) (a .job))) l ≡ freeLabel (view s) a l
-flagged-free s a l b =
-    ap (λ (z : ℕ). eqb z 1) (flags-free (s .n) (s .map) (flag (s .conditions) (s .holders) (a .job)) l b)
-    ∙ flag-test (s .conditions) (s .holders) (a .job) (node (s .map) l)
-
--- a request's walk goes by the history's free labels
-pub walk-is : (s : State) (a : Ask) → s .n ≤ 10 → a .dimension ≤ s .n → walkOf s (a .job) (a .dimension) (a .strategy) ≡ chosen (s .n) (view s) a
-walk-is s a small b =
-    choice-same (a .strategy) (s .n) (a .dimension) (flagged (flags (s .n) (s .map) (flag (s .conditions) (s .holders) (a .job))))
-    (freeLabel (view s) a) small b (flagged-free s a)
+-- the walk of a request or a growth goes by the history's free labels
+pub walk-is : (s : State) (a : Ask) → walkOf s (a .job) (a .dimension) (a .strategy) ≡ chosen (s .n) (view s) a
+walk-is s a = refl

@@ -1,17 +1,15 @@
 -- What each call does to a state, and is told. Document 01, "Six calls and their frames" and "When a call says no": the checks in the table's order.
 use Prim.Native.Nat.{ℕ, _^_}
-use mathlib.Core.Bool.{Bool, true, not, cond}
+use mathlib.Core.Bool.{Bool, true, not, cond, _&&_, _||_}
 use lib.Dec.{eqb, ltb, leb}
 use lib.ListN.{getD}
 use Rattle.hypercube.specs.Bits.{width}
 use Rattle.hypercube.specs.Lists.{countBelow}
-use Rattle.hypercube.specs.Labels.{differing, size, relabelled}
+use Rattle.hypercube.specs.Labels.{node, differing, size, relabelled}
 use Rattle.hypercube.specs.Subcubes.{vertices}
 use Rattle.hypercube.specs.Families.{choice}
 use Rattle.hypercube.specs.declared.Walk.{Walk}
-use Rattle.labels.specs.Flags.{flag, flags}
 use Rattle.labels.specs.Relabelling.{notGood}
-use Rattle.runs.specs.Flagged.{flagged}
 use Rattle.state.specs.declared.State.{State}
 use Rattle.state.specs.declared.Call.{Call}
 use Rattle.state.specs.declared.Call.the-variants.{Good, Fault, Repaired, Relabel, Request, Release, Grow}
@@ -67,9 +65,17 @@ relabelStep s =
     cond (anyHeld s) (refuse s 13)
     (step (withMap s (relabelled (s .n) (notGood (s .conditions)))) (Done (size (differing (s .n) (notGood (s .conditions))))))
 
--- the walk of a request or a growth by job j, on the flags by label
+-- "A node is free if it is good and unheld"; by document 02, (e), to the job that asks "its own good nodes count as free"
+abbrev pub freeNode : State → ℕ → ℕ → Bool
+freeNode s j x = eqb (getD (s .conditions) x 0) 1 && (eqb (getD (s .holders) x 0) 0 || eqb (getD (s .holders) x 0) j)
+
+-- a label is free where its node is, by the map
+abbrev pub freeLabel : State → ℕ → ℕ → Bool
+freeLabel s j l = freeNode s j (node (s .map) l)
+
+-- the walk of a request or a growth by job j: "Strategies work on labels"
 abbrev pub walkOf : State → ℕ → ℕ → ℕ → Walk
-walkOf s j k f = choice f (s .n) k (flagged (flags (s .n) (s .map) (flag (s .conditions) (s .holders) j)))
+walkOf s j k f = choice f (s .n) k (freeLabel s j)
 
 -- a reply to a request or a growth, done to a state: where it is a grant, its job becomes the holder of each node of the subcube granted, "and loses
 -- its nodes outside it"

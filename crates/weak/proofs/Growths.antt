@@ -76,7 +76,7 @@ both-granted s v n c0 c1 h0 h1 =
     let own = own-two (s .map) P in
     let first = node-own D own 0 (omega arith) in
     let second = node-own D own 1 (omega arith) in
-    rw (n, first, second, h0, h1, c0, c1) (ap₂ (λ (x y : ℕ). Granted 1 (numbered x) y 1) first second)
+    rw (n, first, second, h0, h1, c0, c1, firstFree) (ap₂ (λ (x y : ℕ). Granted 1 (numbered x) y 1) first second)
 
 -- ---- a list of calls without a growth
 

@@ -1,16 +1,15 @@
 -- Document 02, (e): "The job gets the first such member and loses its nodes outside it"; such is a member that is "good and unheld by others". Two
 -- programs that do otherwise on a growth, and so break demand 3.
 use Prim.Native.Nat.{ℕ, _^_}
-use mathlib.Core.Bool.{cond}
+use mathlib.Core.Bool.{Bool, cond}
 use mathlib.Core.List.{List}
-use lib.Dec.{leb}
+use lib.Dec.{eqb, leb}
 use lib.ListN.{getD}
 use Rattle.hypercube.specs.Bits.{width}
+use Rattle.hypercube.specs.Labels.{node}
 use Rattle.hypercube.specs.Subcubes.{vertices}
 use Rattle.hypercube.specs.Families.{choice}
 use Rattle.hypercube.specs.declared.Walk.{Walk}
-use Rattle.labels.specs.Flags.{flagOf, flags}
-use Rattle.runs.specs.Flagged.{flagged}
 use Rattle.state.specs.declared.State.{State}
 use Rattle.state.specs.declared.Call.the-variants.{Good, Fault, Repaired, Relabel, Request, Release, Grow}
 use Rattle.state.specs.declared.Reply.{Reply}
@@ -44,18 +43,18 @@ keeping s (Done v) = s
 abbrev pub oldKept : Grows
 oldKept s j k f = step (keeping s (growStep s j k f .reply)) (growStep s j k f .reply)
 
--- one that counts another job's nodes as free: a node's flag, and the walk, as if no node were held
-abbrev pub unheldFlag : State → ℕ → ℕ → ℕ
-unheldFlag s j x = flagOf (getD (s .conditions) x 0) 0 j
+-- one that counts another job's nodes as free: its walk goes by the good nodes, whoever holds them
+abbrev pub goodLabel : State → ℕ → Bool
+goodLabel s l = eqb (getD (s .conditions) (node (s .map) l) 0) 1
 
-abbrev pub unheldWalk : State → ℕ → ℕ → ℕ → Walk
-unheldWalk s j k f = choice f (s .n) k (flagged (flags (s .n) (s .map) (unheldFlag s j)))
+abbrev pub goodWalk : State → ℕ → ℕ → Walk
+goodWalk s k f = choice f (s .n) k (goodLabel s)
 
 abbrev pub othersFree : Grows
 othersFree s j k f =
     byFields s j k f
     (cond (holds s j)
-    (cond (leb (2 ^ k) (heldBy s j)) (refuse s 17) (grantStep s j (unheldWalk s j k f)))
+    (cond (leb (2 ^ k) (heldBy s j)) (refuse s 17) (grantStep s j (goodWalk s k f)))
     (refuse s 11))
 
 -- on any buffer of the record's size, b

@@ -48,7 +48,7 @@ returns c =
     let start = read .before .before in
     walked (decode (start .args .rec .now)) (state-valid _ (start .pre .0)) (start .args .job) (read .dimension .ensures)
     (start .pre .1 .0) (count .nodes-of .ensures .0)
-    (made .flags-by-node .ensures) (moved .flags-by-label .ensures) (start .args .k) (start .args .strategy) (c .choose .ensures)
+    (made .flags-by-node .ensures) (moved .flags-by-label .ensures) (start .args .k) (start .args .strategy) (start .pre .1 .1) (c .choose .ensures)
 
 pub walk-of-spec : {M : Type 1} → statement M
 walk-of-spec =
