@@ -5,13 +5,14 @@ use mathlib.Core.List.{List}
 use Prim.Native.Nat.{ℕ}
 use Rattle.state.specs.declared.State.{State}
 use Rattle.state.specs.declared.Call.{Call}
-use Rattle.state.specs.declared.Reply.{Reply}
+use Rattle.hypercube.specs.declared.Reply.{Reply}
 use Rattle.state.specs.Valid.{valid}
-use Rattle.state.specs.Acts.{step, refuse, acted, called}
-use Rattle.state.proofs.Valid.{means-valid}
+use Rattle.state.specs.Effects.{step}
+use Rattle.state.specs.Acts.{refuse, acted, called}
+use Rattle.state.proofs.Valid.{Sized, means-valid}
 use Rattle.state.proofs.Steps.{called-1, called-on}
 use Rattle.record.specs.Layout.{encode, decode, validRecord}
-use Rattle.record.proofs.Round.{Sized, decode-encode, valid-encode}
+use Rattle.record.proofs.Round.{decode-encode, valid-encode}
 use Rattle.steps.specs.Carried.{Carried}
 use Rattle.steps.proofs.Keeps.{kept, stored-kept}
 

@@ -1,6 +1,6 @@
 // The seven calls on a record's bytes where they lie.
+use hypercube::Reply;
 use state::Call;
-use state::Reply;
 use state::refused;
 ghost use mathlib.Core.Path.{_≡_};
 ghost use mathlib.Core.Bool.{true};

@@ -2,32 +2,36 @@
 use mathlib.Core.Path.{_≡_, refl, ap, _∙_, subst}
 use mathlib.Core.Bool.{true, false}
 use mathlib.Core.List.{List}
-use mathlib.Core.Option.{Option}
+use mathlib.Core.Option.{Option, none}
 use Prim.Native.Nat.{ℕ, _≤_}
 use native.Mathlib.Omega.{arith}
 use lib.Dec.{ltb}
-use lib.ListN.{length}
-use Rattle.hypercube.proofs.Tests.{cases}
+use lib.ListN.{length, drop}
+use Rattle.hypercube.specs.Tests.{cases}
+use Rattle.hypercube.specs.Checks.{firstMet}
 use Rattle.history.specs.Calls.{kind}
 use Rattle.history.specs.Account.{History}
-use Rattle.history.specs.Verdicts.{Verdict, refused, stepBy, verdictBy, step, verdict}
+use Rattle.history.specs.Causes.{checks, causes}
+use Rattle.hypercube.specs.declared.Reply.{Reply}
+use Rattle.hypercube.specs.declared.Reply.the-variants.{Refused}
+use Rattle.history.specs.Verdicts.{cause, stepBy, verdictBy, step, verdict}
 use Rattle.history.specs.Claims.{Bounded}
 use Rattle.state.specs.declared.State.{State}
 use Rattle.state.specs.declared.Step.{Step}
-use Rattle.state.proofs.Valid.{Valid, means-valid}
+use Rattle.state.proofs.Valid.{Sized, Valid, means-valid}
 use Rattle.record.specs.Layout.{encode, validRecord}
-use Rattle.record.proofs.Round.{Sized, decode-encode, valid-encode}
+use Rattle.record.proofs.Round.{decode-encode, valid-encode}
 use Rattle.frames.specs.declared.Parsed.{Parsed}
 use Rattle.frames.specs.declared.Parsed.the-variants.{Known, Bad}
 use Rattle.frames.specs.Parse.{parsed}
 use Rattle.steps.proofs.Keeps.{Kept, kept-all, kept, stored-kept}
 use Rattle.cube.specs.Called.{stepOf, stepOn, callNumber, callRecord, callReply}
-use Rattle.cube.specs.Run.{Exchange, fed, returns, replies}
-use Rattle.cube.proofs.Tested.{rung, frameTests, cause-tested}
-use Rattle.cube.proofs.View.{view}
-use Rattle.cube.proofs.Acts.{Does}
+use Rattle.hypercube.specs.Replies.{numberOf, replies}
+use Rattle.cube.specs.Run.{Exchange, fed}
+use Rattle.state.proofs.View.{view}
+use Rattle.state.proofs.Effected.{Does}
 use Rattle.cube.proofs.Framed.{does}
-use Rattle.cube.proofs.Heard.{Plain, number-said, plain-said, reply-said}
+use Rattle.cube.proofs.Heard.{Plain, plain-of, replies-all}
 
 -- the bytes r are those of a state that the history h is read from
 pub record Stands (n : ℕ) (h : History) (r : List ℕ) : Type 0 where
@@ -38,9 +42,9 @@ pub record Stands (n : ℕ) (h : History) (r : List ℕ) : Type 0 where
   pub viewed : view state ≡ h
 
 -- the call e on the bytes r is answered v, and leaves bytes of the history h
-pub record Answers (n : ℕ) (v : Verdict) (h : History) (e : Exchange) (r : List ℕ) : Type 0 where
+pub record Answers (n : ℕ) (v : Reply) (h : History) (e : Exchange) (r : List ℕ) : Type 0 where
   pub plain : Plain v
-  pub returned : callNumber r (e .frame) (e .buffer) ≡ returns v
+  pub returned : callNumber r (e .frame) (e .buffer) ≡ numberOf v
   pub replied : callReply r (e .frame) (e .buffer) ≡ replies v (e .buffer)
   pub next : Stands n h (callRecord r (e .frame) (e .buffer))
 
@@ -50,7 +54,7 @@ module _ (s : State) (z : Sized s) (w : Valid s) (e : Exchange) where
   passes = valid-encode s z ∙ means-valid s (z .directions) .shows w
 
   -- a reply buffer under 12 bytes
-  short : ltb (length (e .buffer)) 12 ≡ true → Answers (s .n) (refused 2 0) (view s) e (encode s)
+  short : ltb (length (e .buffer)) 12 ≡ true → Answers (s .n) (Refused 2 0) (view s) e (encode s)
   unfolding callNumber callReply callRecord
   short l = record {
     plain = (omega arith, λ q. refl);
@@ -66,14 +70,15 @@ module _ (s : State) (z : Sized s) (w : Valid s) (e : Exchange) where
 
   -- with room: the first cause from row 3 on, and what the frame does
   abbrev first : Option ℕ
-  first = frameTests (s .n) (view s) (fed e) (kind (fed e))
+  first = firstMet (checks (drop 1 (causes (s .n))) (view s) (kind (fed e)) (fed e)) none
 
-  long : ltb (length (e .buffer)) 12 ≡ false → Answers (s .n) (verdictBy (s .n) first (view s) (fed e)) (stepBy (s .n) first (view s) (fed e)) e (encode s)
+  long : ltb (length (e .buffer)) 12 ≡ false
+      → Answers (s .n) (verdictBy (s .n) first (view s) (fed e)) (stepBy (s .n) first (view s) (fed e)) e (encode s)
   unfolding callNumber callReply callRecord stepOn
   long l = record {
-    plain = subst Plain (D .told) (plain-said (t .reply) (D .ends));
-    returned = rw (passes, l, decode-encode s z) (number-said (t .reply) ∙ ap returns (D .told));
-    replied = rw (passes, l, decode-encode s z) (reply-said (t .reply) (e .buffer) (D .ends) ∙ ap (λ (v : Verdict). replies v (e .buffer)) (D .told));
+    plain = subst Plain (D .told) (plain-of (t .reply) (D .ends));
+    returned = rw (passes, l, decode-encode s z) (ap numberOf (D .told));
+    replied = rw (passes, l, decode-encode s z) (replies-all (t .reply) (e .buffer) (D .ends) ∙ ap (λ (v : Reply). replies v (e .buffer)) (D .told));
     next = record {
       state = t .state;
       bytes = rw (passes, l, decode-encode s z) (stored-kept s z t K);
@@ -93,9 +98,8 @@ module _ (s : State) (z : Sized s) (w : Valid s) (e : Exchange) where
       K = kept-frame (parsed (e .frame))
 
   on-state : Answers (s .n) (verdict (s .n) (view s) (fed e)) (step (s .n) (view s) (fed e)) e (encode s)
-  unfolding verdict step rung
-  on-state =
-      rw (cause-tested (s .n) (view s) (fed e)) (cases (ltb (length (e .buffer)) 12) (λ l. rw l (short l)) (λ l. rw l (long l)))
+  unfolding verdict step cause causes firstMet
+  on-state = cases (ltb (length (e .buffer)) 12) (λ l. rw l (short l)) (λ l. rw l (long l))
 
 -- a history within its bounds is read from valid states only
 valid-of : (s : State) → s .n ≤ 10 → Bounded (s .n) (view s) → Valid s

@@ -1,47 +1,43 @@
 -- What any frame does to a state, and is told, is what the history says of it. Assumes nothing.
 use mathlib.Core.Path.{_≡_, refl}
 use mathlib.Core.Bool.{not, _||_}
-use mathlib.Core.Option.{some}
+use mathlib.Core.Option.{Option, none, some}
+use Prim.Native.Nat.{ℕ}
+use native.Mathlib.Omega.{arith}
 use lib.Dec.{eqb, ltb}
-use lib.ListN.{length}
-use Rattle.hypercube.proofs.Tests.{cases}
-use Rattle.history.specs.Calls.{Call, Kind, good, fault, repaired, relabel, request, release, grow, other, word, kindOf, lengthField, kind}
-use Rattle.history.specs.Calls.{nodeField, job, dimension, strategy, size}
+use lib.ListN.{length, drop}
+use Rattle.hypercube.specs.Words.{word}
+use Rattle.hypercube.specs.Tests.{cases}
+use Rattle.hypercube.specs.Checks.{firstMet}
+use Rattle.history.specs.Calls.{Call, Kind, kindOf, lengthField, kind, size}
+use Rattle.history.specs.Causes.{checks, causes}
 use Rattle.state.specs.declared.State.{State}
 use Rattle.state.specs.declared.Call as alloc
-use Rattle.state.specs.declared.Call.the-variants.{Good, Fault, Repaired, Relabel, Request, Release, Grow}
-use Rattle.state.specs.Acts.{acted}
-use Rattle.state.proofs.Valid.{Valid}
-use Rattle.record.proofs.Round.{Sized}
-use Rattle.frames.specs.Parse.{callOf, sized, byKind, parsed}
+use Rattle.state.specs.Acts.{callOf}
+use Rattle.state.proofs.Valid.{Sized, Valid}
+use Rattle.state.proofs.View.{view}
+use Rattle.state.proofs.Effected.{Does, refuses}
+use Rattle.state.proofs.Agrees.{Reads, reads}
+use Rattle.frames.specs.Parse.{sized, parsed}
 use Rattle.cube.specs.Called.{stepOf}
-use Rattle.cube.proofs.Tested.{is, rung, tests, frameTests}
-use Rattle.cube.proofs.View.{view}
-use Rattle.cube.proofs.Acts.{Does, refuses, does-good, does-fault, does-repaired, does-relabel, does-request, does-release, does-grow}
 
 module _ (s : State) (z : Sized s) (w : Valid s) (c : Call) where
-  -- rows 5 and on, for a call that was read
-  of-size : (k : Kind) (a : alloc.Call) → Does s c (acted s a) (tests (s .n) (view s) c k)
-      → Does s c (stepOf s (sized (c .frame) k (some a))) (rung (not (eqb (length (c .frame)) (size k))) 5 (tests (s .n) (view s) c k))
-  unfolding sized rung
-  of-size k a d = cases (eqb (length (c .frame)) (size k)) (λ l. rw l d) (λ l. rw l (refuses s z w c 5 refl))
+  -- the rows from 4 on, for a frame of kind k that is read as o
+  of-kind : (k : Kind) (o : Option alloc.Call) → Reads s z w c o k
+      → Does s c (stepOf s (sized (c .frame) k o)) (firstMet (checks (drop 2 (causes (s .n))) (view s) k c) none)
+  unfolding sized causes firstMet
+  of-kind k none R = rw R (refuses s z w c 4 (omega arith, λ e. absurd (omega arith)))
+  of-kind k (some a) R =
+      rw (R .0) (cases (eqb (length (c .frame)) (size k))
+      (λ l. rw l (R .1))
+      (λ l. rw l (refuses s z w c 5 (omega arith, λ e. absurd (omega arith)))))
 
-  -- rows 4 and on
-  of-kind : (k : Kind) → kind c ≡ k
-      → Does s c (stepOf s (byKind (c .frame) k)) (rung (is k other) 4 (rung (not (eqb (length (c .frame)) (size k))) 5 (tests (s .n) (view s) c k)))
-  unfolding callOf sized rung nodeField job dimension strategy
-  of-kind good e = of-size good (Good (record { 0 = nodeField c })) (does-good s z w c e)
-  of-kind fault e = of-size fault (Fault (record { 0 = nodeField c })) (does-fault s z w c e)
-  of-kind repaired e = of-size repaired (Repaired (record { 0 = nodeField c })) (does-repaired s z w c e)
-  of-kind relabel e = of-size relabel Relabel (does-relabel s z w c e)
-  of-kind request e = of-size request (Request (job c) (dimension c) (strategy c)) (does-request s z w c e)
-  of-kind release e = of-size release (Release (job c)) (does-release s z w c e)
-  of-kind grow e = of-size grow (Grow (job c) (dimension c) (strategy c)) (does-grow s z w c e)
-  of-kind other e = refuses s z w c 4 refl
-
-  pub does : Does s c (stepOf s (parsed (c .frame))) (frameTests (s .n) (view s) c (kind c))
-  unfolding parsed rung lengthField kind
+  -- the rows from 3 on
+  pub does : Does s c (stepOf s (parsed (c .frame))) (firstMet (checks (drop 1 (causes (s .n))) (view s) (kind c) c) none)
+  unfolding parsed causes firstMet lengthField kind
   does =
       cases (ltb (length (c .frame)) 4 || not (eqb (word (c .frame) 0) (length (c .frame))))
-      (λ l. rw l (refuses s z w c 3 refl))
-      (λ l. rw l (of-kind (kindOf (word (c .frame) 2)) refl))
+      (λ l. rw l (refuses s z w c 3 (omega arith, λ e. absurd (omega arith))))
+      (λ l.
+      let k = kindOf (word (c .frame) 2) in
+      rw l (of-kind k (callOf (c .frame) k) (reads s z w c k refl)))

@@ -1,7 +1,4 @@
--- Demand 3: the first cause by tests; a state as a history; what a call, a frame and a list of calls do to both. Then each way out of the code.
-pub mod Tested
-pub mod View
-pub mod Acts
+-- Demand 3: what a frame and a list of calls do to a record, and to the history. Then each way out of the code.
 pub mod Framed
 pub mod Heard
 pub mod Answers

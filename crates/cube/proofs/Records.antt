@@ -5,7 +5,7 @@ use Prim.Native.Nat.{ℕ, _+_, _*_, _^_, _<_, _≤_}
 use native.Mathlib.Omega.{arith}
 use lib.Pow.{pow-mono}
 use lib.ListN.{length, getD}
-use Rattle.history.specs.Calls.{word}
+use Rattle.hypercube.specs.Words.{word}
 use Rattle.history.specs.Account.{History}
 use Rattle.history.specs.Claims.{Bounded}
 use Rattle.state.proofs.Valid.{means-valid}

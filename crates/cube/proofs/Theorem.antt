@@ -17,9 +17,10 @@ use Rattle.history.proofs.Grants.{Kept, unheld-beyond, held-right}
 use Rattle.history.proofs.Theorem.{fresh-kept, history-right}
 use Rattle.state.specs.States.{freshState}
 use Rattle.cube.specs.Called.{setupNumber, setupRecord, delivered}
-use Rattle.cube.specs.Run.{Exchange, Exchanges, begin, _next_, fed, feed, heard, recordAfter, number, reply, heldAt, historyFrom, historyAt}
+use Rattle.hypercube.specs.Replies.{heard}
+use Rattle.cube.specs.Run.{Exchange, Exchanges, begin, _next_, fed, feed, recordAfter, number, reply, heldAt, historyFrom, historyAt}
 use Rattle.cube.specs.Demand3.{ListRight, Demand3}
-use Rattle.cube.proofs.View.{entry}
+use Rattle.state.proofs.View.{entry}
 use Rattle.cube.proofs.Heard.{heard-back}
 use Rattle.cube.proofs.Answers.{Stands, Answers, answers}
 use Rattle.cube.proofs.Judge.{judged}

@@ -7,17 +7,16 @@ use mathlib.Core.List.{List}
 use native.Mathlib.Omega.{arith}
 use borrow.Author.Tests.{eq-eqb, ne-eqb, lt-ltb, le-ltb, lt-leb, le-leb}
 use lib.ListN.{length, getD}
+use Rattle.hypercube.specs.Replies.{numberOf, frameOf, written}
 use Rattle.state.specs.declared.State.{State}
-use Rattle.state.specs.declared.Reply.{Reply}
-use Rattle.state.specs.declared.Reply.the-variants.{Refused}
+use Rattle.hypercube.specs.declared.Reply.{Reply}
+use Rattle.hypercube.specs.declared.Reply.the-variants.{Refused}
 use Rattle.state.specs.States.{freshState}
-use Rattle.state.specs.Acts.{numberOf}
 use Rattle.record.specs.Layout.{recordSize, encode, validRecord}
 use Rattle.record.proofs.Round.{record-says, encode-decode}
 use Rattle.frames.specs.declared.Parsed.{Parsed}
 use Rattle.frames.specs.declared.Parsed.the-variants.{Bad}
 use Rattle.frames.specs.Parse.{parsed}
-use Rattle.frames.specs.Answer.{frameOf, written}
 use Rattle.steps.proofs.Ways.{refuses}
 use Rattle.cube.specs.Called.{setupNumber, setupRecord, stepOn, callNumber, callRecord, callReply, delivered, SetUp, Called}
 use Rattle.cube.specs.Carried.{CarriedFrame}

@@ -5,13 +5,12 @@ use mathlib.Core.Path.{_≡_}
 use mathlib.Core.List.{List}
 use lib.Dec.{eqb, ltb, leb}
 use lib.ListN.{length}
+use Rattle.hypercube.specs.Replies.{numberOf, frameOf, written}
 use Rattle.state.specs.declared.Step.{Step}
 use Rattle.state.specs.States.{freshState}
-use Rattle.state.specs.Acts.{numberOf}
 use Rattle.record.specs.Layout.{recordSize, encode, decode, validRecord}
 use Rattle.frames.specs.Parse.{parsed}
 pub use Rattle.frames.specs.Parse.{stepOf}
-use Rattle.frames.specs.Answer.{frameOf, written}
 
 -- "Set-up gives 1 for a buffer that isn't 3088 bytes, before 7."
 unfoldable pub setupNumber : List ℕ → ℕ → ℕ

@@ -1,7 +1,7 @@
 -- What a frame does to a record that is one, and is told: its call's step, or the refusal of the frame.
 use mathlib.Core.List.{List}
 use Prim.Native.Nat.{ℕ}
-use Rattle.state.specs.declared.Reply.{Reply}
+use Rattle.hypercube.specs.declared.Reply.{Reply}
 use Rattle.record.specs.Layout.{decode}
 use Rattle.frames.specs.declared.Parsed.{Parsed}
 use Rattle.steps.specs.Carried.{Does}

@@ -8,15 +8,18 @@ use lib.ListN.{length, getD}
 use Rattle.hypercube.specs.Lists.{In, FirstWith}
 use Rattle.hypercube.specs.Labels.{node}
 use Rattle.hypercube.specs.declared.Subcube.{Subcube}
-use Rattle.history.specs.Calls.{kind, job, ask, asking, word}
+use Rattle.hypercube.specs.Words.{word}
+use Rattle.hypercube.specs.Replies.{granted, numberOf, replies}
+use Rattle.history.specs.Calls.{kind, job, ask, asking}
 use Rattle.history.specs.Account.{History, fresh, AllFree}
 use Rattle.history.specs.Causes.{First, NoneMet, NoMemberFree, asked, earlier, causes}
-use Rattle.history.specs.Verdicts.{granted, refused, tried, verdict}
+use Rattle.hypercube.specs.declared.Reply.the-variants.{Refused}
+use Rattle.history.specs.Verdicts.{tried, verdict}
 use Rattle.history.specs.Held.{Held}
 use Rattle.history.specs.Claims.{HeldRight}
 use Rattle.record.specs.Layout.{conditionsAt, holdersAt, recordSize, validRecord}
 use Rattle.cube.specs.Called.{Program}
-use Rattle.cube.specs.Run.{Exchange, Exchanges, _next_, fed, feed, returns, replies, recordAfter, number, reply, heldAt, historyFrom}
+use Rattle.cube.specs.Run.{Exchange, Exchanges, _next_, fed, feed, recordAfter, number, reply, heldAt, historyFrom}
 
 -- a request or a growth is replied 'granted' with its job and the lowest node, star bits and place of the first free member of its family
 pub record Gets (n : ℕ) (h : History) (e : Exchange) (p′ : List ℕ) : Type 0 where
@@ -31,11 +34,11 @@ pub record Judged (n : ℕ) (h : History) (e : Exchange) (m : ℕ) (p′ r r′ 
   pub refused-by-first : (q : ℕ) → q ≢ 0 → (m ≡ q) ↔ First (causes n) h (fed e) q
   pub accepted-by-none : (m ≡ 0) ↔ NoneMet (causes n) h (fed e)
   -- the number and the whole reply buffer are what the history says; a refusal leaves the record
-  pub returned : m ≡ returns (verdict n h (fed e))
+  pub returned : m ≡ numberOf (verdict n h (fed e))
   pub replied : p′ ≡ replies (verdict n h (fed e)) (e .buffer)
   pub left : m ≢ 0 → r′ ≡ r
   -- a refusal's reply has its number and what was tried
-  pub refusal : (q : ℕ) → First (causes n) h (fed e) q → p′ ≡ replies (refused q (tried n (fed e) q)) (e .buffer)
+  pub refusal : (q : ℕ) → First (causes n) h (fed e) q → p′ ≡ replies (Refused q (tried n (fed e) q)) (e .buffer)
   -- a request or a growth that meets no earlier cause: 'none free' exactly when no member of its family is all good and unheld by others,
   -- otherwise the first such
   pub none-free : In (kind (fed e)) asking → NoneMet (earlier n) h (fed e) → (m ≡ 14) ↔ NoMemberFree n h (ask (fed e))

@@ -1,16 +1,13 @@
 -- A list of calls on one record. Document 01, the paragraph of demand 3: "the list starts with the record as [set-up] left it. A call in it is any
 -- bytes as a frame, with any reply buffer; neither is part of the record."
 use Prim.Native.Nat.{ℕ}
-use mathlib.Core.Bool.{cond}
-use mathlib.Core.List.{List, [], _∷_}
-use lib.Dec.{eqb}
+use mathlib.Core.List.{List}
 use lib.ListN.{length}
-use Rattle.history.specs.Calls.{Call, Log, start, _then_, word}
+use Rattle.history.specs.Calls.{Call, Log, start, _then_}
 use Rattle.history.specs.Account.{History, fresh}
-use Rattle.history.specs.Verdicts.{Verdict, granted, refused, done, after}
+use Rattle.hypercube.specs.Replies.{heard}
+use Rattle.history.specs.Verdicts.{after}
 use Rattle.history.specs.Held.{Held, heldAfter}
-use Rattle.record.specs.Layout.{words}
-use Rattle.frames.specs.Answer.{written}
 use Rattle.cube.specs.Called.{Program}
 
 pub record Exchange : Type 0 where
@@ -30,24 +27,6 @@ fed e = record { frame = e .frame; room = length (e .buffer) }
 abbrev pub feed : Exchanges → Log
 feed begin = start
 feed (es next e) = feed es then fed e
-
--- a verdict in bytes: what is returned, and the reply buffer p after it
-abbrev pub returns : Verdict → ℕ
-returns (granted j low stars t) = 0
-returns (refused m t) = m
-returns (done v) = 0
-
-abbrev pub replies : Verdict → List ℕ → List ℕ
-replies (granted j low stars t) p = written (words (12 ∷ 0x8001 ∷ j ∷ low ∷ stars ∷ t ∷ [])) p
-replies (refused m t) p = cond (eqb m 2) p (written (words (8 ∷ 0x8002 ∷ m ∷ t ∷ [])) p)
-replies (done v) p = written (words (6 ∷ 0x8003 ∷ v ∷ [])) p
-
--- and read back: what the number returned and the reply's bytes say
-unfoldable pub heard : ℕ → List ℕ → Verdict
-heard number p =
-    cond (eqb number 0)
-    (cond (eqb (word p 2) 0x8001) (granted (word p 4) (word p 6) (word p 8) (word p 10)) (done (word p 4)))
-    (cond (eqb number 2) (refused 2 0) (refused number (word p 6)))
 
 -- the program P on the record r, at which the list begins
 module _ (P : Program) (r : List ℕ) where

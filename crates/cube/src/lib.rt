@@ -1,7 +1,7 @@
 // Set-up and the frame call on byte slices, exported for a daemon in C: include/cube.h declares them.
 // A call writes nothing but the record and the reply that it is lent, and keeps nothing.
 use frames::Parsed;
-use state::Reply;
+use hypercube::Reply;
 ghost use mathlib.Core.Path.{_≡_};
 ghost use mathlib.Core.Bool.{true};
 ghost use Rattle.record.specs.Layout.{validRecord};

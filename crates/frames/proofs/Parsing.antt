@@ -9,12 +9,15 @@ use native.Mathlib.Omega.{arith}
 use borrow.Author.Tests.{eq-eqb, ne-eqb, lt-ltb, le-ltb, not-false}
 use lib.Dec.{eqb, leb}
 use lib.ListN.{length}
-use Rattle.hypercube.proofs.Tests.{means-eq, means-le, means-or}
-use Rattle.history.specs.Calls.{Kind, other, word, kinds, kindOf, size}
+use Rattle.hypercube.specs.Words.{word}
+use Rattle.hypercube.specs.Conditions.{allOf}
+use Rattle.hypercube.specs.Tests.{means-eq, means-le, means-or}
+use Rattle.history.specs.Calls.{Kind, other, kinds, kindOf, size}
 use Rattle.history.proofs.KindTable.{row-size, RowOf, row-of, shown, NoneOf, keep, row-left}
+use Rattle.state.specs.Acts.{callOf}
 use Rattle.state.specs.declared.Call.{Call}
 use Rattle.frames.specs.declared.Parsed.the-variants.{Known, Bad}
-use Rattle.frames.specs.Parse.{callOf, sized, byKind, parsed}
+use Rattle.frames.specs.Parse.{sized, byKind, parsed}
 use Rattle.frames.specs.Parts.{RightSize}
 
 -- ---- the kind of a number, by the table's rows
@@ -36,6 +39,7 @@ module _ (f : List ℕ) (w : ℕ) (p : RightSize f w) where
 
   -- only a relabel has no field
   pub has-field : w ≢ 0x0203 → 6 ≤ length f
+  unfolding allOf
   has-field l =
       ⊎-elim (λ e. absurd (l (its .number ∙ e))) (λ h. omega (arith, p .right, its .size, h))
       (means-or (means-eq (its .row .number) 0x0203) (means-le 6 (its .row .size)) .holds
@@ -83,7 +87,7 @@ module _ (f : List ℕ) where
       cause-4 z = sym (ap (byKind f) (size-other w z)) ∙ parsed-kind
 
       pub cause-5 : size (kindOf w) ≢ 0 → length f ≢ size (kindOf w) → Bad 5 ≡ parsed f
-      unfolding callOf
+      unfolding callOf allOf
       cause-5 z h =
           let R = row-sized w z in
           wrong-size f (kindOf w) (callOf f (kindOf w)) (rw (R .kind) (shown w (λ r. is-some (callOf f (r .kind))) refl R)) h ∙ parsed-kind

@@ -6,12 +6,11 @@ use native.Mathlib.Numerals.{add-one}
 use native.Mathlib.Omega.{arith}
 use lib.ListN.{length, getD, drop, drop-of-length-le}
 use lib.Seq.{sets, sets-eq, drop-cons}
-use Rattle.history.specs.Calls.{word}
-use Rattle.state.specs.declared.Reply.{Reply}
-use Rattle.record.specs.Layout.{words}
+use Rattle.hypercube.specs.Words.{word, words}
+use Rattle.hypercube.specs.Replies.{fields, frameOf, written}
+use Rattle.hypercube.specs.declared.Reply.{Reply}
 use Rattle.record.proofs.Round.{length-words}
 use Rattle.frames.specs.Parts.{putWord}
-use Rattle.frames.specs.Answer.{fields, frameOf, written}
 
 -- the numbers are read back
 pub word-words : (xs rest : List ℕ) (i : ℕ) → i < length xs → word (words xs ++ rest) (2 * i) ≡ getD xs i 0

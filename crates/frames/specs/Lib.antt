@@ -1,4 +1,3 @@
--- Frames to calls, and replies to frames.
+-- Frames to calls, and what the parts of parsing and answering ask and do.
 pub mod Parse
-pub mod Answer
 pub mod Parts

@@ -1,29 +1,19 @@
--- Any bytes to a call, or to refusal 3, 4 or 5. Document 01, "Six calls and their frames"; the kinds, sizes and fields are the history's.
+-- Any bytes to a call, or to refusal 3, 4 or 5. Document 01, "Six calls and their frames"; the kinds and sizes are the history's, a kind's fields
+-- those of its call.
 use Prim.Native.Nat.{ℕ}
 use mathlib.Core.Bool.{not, cond, _||_}
 use mathlib.Core.List.{List}
 use mathlib.Core.Option.{Option, none, some}
 use lib.Dec.{eqb, ltb}
-use lib.ListN.{length, getD}
-use Rattle.history.specs.Calls.{Kind, good, fault, repaired, relabel, request, release, grow, other, word, kindOf, size}
+use lib.ListN.{length}
+use Rattle.hypercube.specs.Words.{word}
+use Rattle.history.specs.Calls.{Kind, kindOf, size}
 use Rattle.state.specs.declared.State.{State}
 use Rattle.state.specs.declared.Call.{Call}
-use Rattle.state.specs.declared.Call.the-variants.{Good, Fault, Repaired, Relabel, Request, Release, Grow}
 use Rattle.state.specs.declared.Step.{Step}
-use Rattle.state.specs.Acts.{refuse, acted}
+use Rattle.state.specs.Acts.{callOf, refuse, acted}
 use Rattle.frames.specs.declared.Parsed.{Parsed}
 use Rattle.frames.specs.declared.Parsed.the-variants.{Known, Bad}
-
--- the call of a kind, by its fields
-unfoldable pub callOf : List ℕ → Kind → Option Call
-callOf f good = some (Good (record { 0 = word f 4 }))
-callOf f fault = some (Fault (record { 0 = word f 4 }))
-callOf f repaired = some (Repaired (record { 0 = word f 4 }))
-callOf f relabel = some Relabel
-callOf f request = some (Request (word f 4) (getD f 6 0) (getD f 7 0))
-callOf f release = some (Release (word f 4))
-callOf f grow = some (Grow (word f 4) (getD f 6 0) (getD f 7 0))
-callOf f other = none
 
 -- cause 4 where the kind has no call, then cause 5 where the frame's size isn't the kind's
 unfoldable pub sized : List ℕ → Kind → Option Call → Parsed

@@ -1,16 +1,17 @@
 // Frames to calls, and replies to frames. Document 01, "Six calls and their frames".
 use hypercube::Node;
+use hypercube::Reply;
 use record::word;
 use state::Call;
-use state::Reply;
 ghost use mathlib.Core.Path.{_≡_};
 ghost use mathlib.Core.Option.{some};
 ghost use Prim.Native.Nat.{_+_, _*_, _≤_, _<_};
 ghost use lib.ListN.{length};
 ghost use Rattle.history.specs.Calls.{kindOf, size};
-ghost use Rattle.record.specs.Layout.{words};
-ghost use Rattle.frames.specs.Parse.{callOf, parsed};
-ghost use Rattle.frames.specs.Answer.{frameOf, written};
+ghost use Rattle.hypercube.specs.Words.{words};
+ghost use Rattle.hypercube.specs.Replies.{frameOf, written};
+ghost use Rattle.state.specs.Acts.{callOf};
+ghost use Rattle.frames.specs.Parse.{parsed};
 ghost use Rattle.frames.specs.Parts.{RightSize, putWord};
 
 // A frame that is read, or the number of its refusal.

@@ -22,7 +22,8 @@ use Rattle.labels.proofs.Flags.{empty-by-node, flags-moved, flag-test}
 use Rattle.runs.specs.Flagged.{flagged}
 use Rattle.state.specs.declared.State.{State}
 use Rattle.state.specs.Valid.{Valid}
-use Rattle.state.specs.Acts.{nodeCount, freeLabel, walkOf}
+use Rattle.state.specs.Checks.{nodeCount}
+use Rattle.state.specs.Effects.{freeLabel, walkOf}
 use Rattle.nodes.specs.Holders.{LowestOf}
 
 -- ---- the flags of the state s where job j asks, by node and moved to their labels

@@ -5,12 +5,13 @@ use mathlib.Core.Bool.{true, cond}
 use mathlib.Core.List.{List}
 use lib.Dec.{eqb}
 use lib.ListN.{length, getD, length-map}
+use Rattle.state.proofs.Valid.{Sized}
 use Rattle.state.specs.declared.State.{State}
 use Rattle.state.specs.States.{withHolders, given, cleared}
 use Rattle.state.proofs.Steps.{holds-none}
 use Rattle.state.proofs.Plain.{plain-lose}
 use Rattle.record.specs.Layout.{recordSize, encode, decode, headRight}
-use Rattle.record.proofs.Round.{Sized, length-encode, head-encode, decode-encode, encode-decode, sized-decode}
+use Rattle.record.proofs.Round.{length-encode, head-encode, decode-encode, encode-decode, sized-decode}
 use Rattle.steps.proofs.Ways.{state-valid, whole}
 use Rattle.grants.specs.Grants.{Holding}
 

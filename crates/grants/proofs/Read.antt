@@ -6,7 +6,7 @@ use mathlib.Core.List.{List}
 use Rattle.labels.specs.Directions.{Directions}
 use Rattle.labels.specs.Flags.{EmptyFrom}
 use Rattle.labels.proofs.Directions.{directions}
-use Rattle.state.specs.Acts.{nodeCount}
+use Rattle.state.specs.Checks.{nodeCount}
 use Rattle.record.specs.Layout.{decode, validRecord}
 use Rattle.record.proofs.Round.{sized-decode}
 use Rattle.steps.proofs.Ways.{state-valid}

@@ -4,8 +4,9 @@ use mathlib.Core.Path.{_≡_}
 use mathlib.Core.Logic.{_≢_}
 use mathlib.Core.Bool.{true}
 use mathlib.Core.List.{List}
-use Rattle.state.specs.declared.Reply.{Reply}
-use Rattle.state.specs.Acts.{heldBy, walkOf, grantStep}
+use Rattle.hypercube.specs.declared.Reply.{Reply}
+use Rattle.state.specs.Checks.{heldBy}
+use Rattle.state.specs.Effects.{walkOf, grantStep}
 use Rattle.record.specs.Layout.{decode, validRecord}
 use Rattle.steps.specs.Carried.{Does}
 

@@ -1,2 +1,2 @@
--- What a request without a cause before 14 does to a record.
+-- What a request or a growth without a cause before 14 does to a record.
 pub mod Grants

@@ -1,13 +1,14 @@
 // Requests, growths and releases, on a record's bytes where they lie.
+use hypercube::Reply;
 use hypercube::Walk;
-use state::Reply;
 use state::refused;
 ghost use mathlib.Core.Path.{_≡_};
 ghost use mathlib.Core.Bool.{true};
 ghost use Prim.Native.Nat.{_≤_};
 ghost use Rattle.state.specs.declared.Call.the-variants.{Request, Release, Grow};
 ghost use Rattle.state.specs.States.{withHolders, cleared};
-ghost use Rattle.state.specs.Acts.{walkOf, fieldCause};
+ghost use Rattle.state.specs.Checks.{fieldCause};
+ghost use Rattle.state.specs.Effects.{walkOf};
 ghost use Rattle.state.specs.Walked.{triedIn};
 ghost use Rattle.record.specs.Layout.{encode, decode, validRecord};
 ghost use Rattle.steps.specs.Carried.{Carried};

@@ -8,7 +8,7 @@ use lib.ListN.{length}
 use Rattle.hypercube.specs.Lists.{over, from}
 use Rattle.hypercube.specs.Bits.{width}
 use Rattle.hypercube.specs.Gray.{G, position}
-use Rattle.hypercube.proofs.Tests.{means-true, means-eq, means-lt, means-and}
+use Rattle.hypercube.specs.Tests.{means-true, means-eq, means-lt, means-and}
 use Rattle.hypercube.proofs.GrayCode.{position-G}
 use Rattle.gray.specs.declared.GrayCode.{GrayCode}
 use Rattle.gray.specs.Tables.{firstLabels, labelTable, positionTable, grayCode}

@@ -1,38 +1,29 @@
 -- The table of kinds: what a test shows of every row holds of the kind of any number. Assumes nothing.
 use mathlib.Core.Path.{_≡_, refl, sym, ap, _∙_}
-use mathlib.Core.Logic.{_⊎_, inl, inr, ⊎-elim, _≢_, ite, if-pos}
+use mathlib.Core.Logic.{_⊎_, inl, inr, ⊎-elim, _≢_}
 use mathlib.Core.Bool.{Bool, true, false, cond, not, _&&_, false≢true}
 use mathlib.Core.List.{List, [], _∷_}
 use Prim.Native.Nat.{ℕ, _≤_}
 use borrow.Author.Tests.{eqb-true, eq-eqb, leb-true, not-true}
 use lib.Dec.{eqb, leb}
 use Rattle.hypercube.specs.Lists.{In}
-use Rattle.hypercube.proofs.Tests.{cases, means-true, means-and}
-use Rattle.history.specs.Calls.{Kind, other, Kind-discrete, is, KindRow, kinds, lookup, kindOf, size}
+use Rattle.hypercube.specs.Tests.{cases, means-true, means-and}
+use Rattle.hypercube.specs.Conditions.{so, allOf, means-every}
+use Rattle.history.specs.Calls.{other, _of_, KindRow, kinds, lookup, is-row, kindOf, size}
 
-both : (a b : Bool) → a && b ≡ true → (a ≡ true) × (b ≡ true)
-both a b = means-and means-true means-true .holds
-
--- every row passes the test
-abbrev pub every : (KindRow → Bool) → List KindRow → Bool
-every test [] = true
-every test (r ∷ rs) = test r && every test rs
-
-passes : (test : KindRow → Bool) (rs : List KindRow) → every test rs ≡ true → (r : KindRow) → In r rs → test r ≡ true
-passes test [] e r i = absurd i
-passes test (q ∷ rs) e r (inl z) = rw z (both (test q) (every test rs) e .0)
-passes test (q ∷ rs) e r (inr i) = passes test rs (both (test q) (every test rs) e .1) r i
+passes : (test : KindRow → Bool) (rs : List KindRow) → allOf test rs ≡ true → (r : KindRow) → In r rs → test r ≡ true
+passes test rs = means-every rs (λ r. so (test r)) .holds
 
 -- no two rows are the same by some key
 abbrev apart : (KindRow → KindRow → Bool) → List KindRow → Bool
 apart same [] = true
-apart same (q ∷ rs) = every (λ r. not (same r q)) rs && apart same rs
+apart same (q ∷ rs) = allOf (λ r. not (same r q)) rs && apart same rs
 
 -- ---- what is looked up in a table
 
 module _ {A : Type 0} (column : KindRow → A) (a : A) where
   -- it is a, or a row that passes has it
-  found : (test : KindRow → Bool) (rs : List KindRow)
+  pub found : (test : KindRow → Bool) (rs : List KindRow)
       → (lookup test column a rs ≡ a) ⊎ ((r : KindRow) × In r rs × (test r ≡ true) × (lookup test column a rs ≡ column r))
   found test [] = inl refl
   found test (r ∷ rs) =
@@ -45,7 +36,7 @@ module _ {A : Type 0} (column : KindRow → A) (a : A) where
     own [] d r i = absurd i
     own (q ∷ rs) d r (inl e) = rw (e, self q)
     own (q ∷ rs) d r (inr i) =
-        let p = both (every (λ r. not (same r q)) rs) (apart same rs) d in
+        let p = means-and means-true means-true .holds d in
         rw (not-true (same r q) (passes (λ r. not (same r q)) rs (p .0) r i)) (own rs (p .1) r i)
 
 -- ---- the rows of the table
@@ -53,16 +44,18 @@ module _ {A : Type 0} (column : KindRow → A) (a : A) where
 module _ (r : KindRow) (i : In r kinds) where
   -- "A frame is length, kind, fields, two bytes each unless said": it has at least the first two
   pub row-size : 4 ≤ r .size
+  unfolding allOf
   row-size = leb-true 4 (r .size) (passes (λ r. leb 4 (r .size)) kinds refl r i)
 
   -- a row's number is of the row's kind
   pub row-kind : kindOf (r .number) ≡ r .kind
-  unfolding kindOf
+  unfolding kindOf allOf
   row-kind = own (λ r. r .kind) other (λ r q. eqb (r .number) (q .number)) (λ r. eq-eqb (r .number) (r .number) refl) kinds refl r i
 
   -- a column, looked up by a row's kind, is the row's
-  pub row-entry : {A : Type 0} (column : KindRow → A) (a : A) → lookup (λ q. is (r .kind) (q .kind)) column a kinds ≡ column r
-  row-entry column a = own column a (λ r q. is (r .kind) (q .kind)) (λ r. if-pos (Kind-discrete (r .kind) (r .kind)) refl true false) kinds refl r i
+  pub row-entry : {A : Type 0} (column : KindRow → A) (a : A) → lookup (is-row (r .kind)) column a kinds ≡ column r
+  unfolding allOf
+  row-entry column a = own column a (λ r q. is-row (r .kind) q) (λ r. (r .kind of (r .kind ∷ [])) .means .shows (inl refl)) kinds refl r i
 
 -- the row of the number w
 pub record RowOf (w : ℕ) : Type 0 where
@@ -89,7 +82,7 @@ module _ (w : ℕ) where
       (found (λ r. r .kind) other (λ r. eqb w (r .number)) kinds)
 
   -- what a test shows of every row it shows of the row of w
-  pub shown : (test : KindRow → Bool) → every test kinds ≡ true → (R : RowOf w) → test (R .row) ≡ true
+  pub shown : (test : KindRow → Bool) → allOf test kinds ≡ true → (R : RowOf w) → test (R .row) ≡ true
   shown test e R = passes test kinds e (R .row) (R .listed)
 
 -- ---- a number that is none of some rows'

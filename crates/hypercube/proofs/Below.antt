@@ -6,7 +6,7 @@ use mathlib.Core.Bool.{Bool, true, false≢true}
 use native.Mathlib.Omega.{arith}
 use Rattle.hypercube.specs.Lists.{Some, allBelow, anyBelow}
 use Rattle.hypercube.proofs.Bits.{lt-or}
-use Rattle.hypercube.proofs.Tests.{Means, means-iff, means-true, means-and, means-or}
+use Rattle.hypercube.specs.Tests.{Means, means-iff, means-true, means-and, means-or}
 
 -- what holds below N and of N holds below N + 1
 below-next : (P : ℕ → Type 0) (N : ℕ) → (((x : ℕ) → x < N → P x) × P N) ↔ ((x : ℕ) → x < suc N → P x)

@@ -1,6 +1,5 @@
--- The laws of the published definitions, over n and k.
-pub mod Tests
-pub mod Decisions
+-- The laws of lists of checks, and of the published definitions, over n and k.
+pub mod Checks
 pub mod Bits
 pub mod Below
 pub mod Lists

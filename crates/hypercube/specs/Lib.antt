@@ -1,8 +1,14 @@
--- The published definitions, in document 01's order: labels, subcubes, the families, the first free member; and what a loop has filled.
+-- The published definitions, in document 01's order: labels, subcubes, the families, the first free member, replies. Before them what a table of
+-- causes and a call's checks are made of; after them what a loop has filled.
 pub mod Lists
+pub mod Tests
+pub mod Conditions
+pub mod Checks
 pub mod Bits
 pub mod Labels
 pub mod Subcubes
 pub mod Gray
 pub mod Families
+pub mod Words
+pub mod Replies
 pub mod Filled

@@ -15,7 +15,7 @@ use Rattle.hypercube.specs.Labels.{node}
 use Rattle.hypercube.specs.declared.Node.{Node}
 use Rattle.hypercube.proofs.Bits.{lt-or}
 use Rattle.hypercube.proofs.Filled.{Swept}
-use Rattle.hypercube.proofs.Tests.{Means, means-and, means-lt}
+use Rattle.hypercube.specs.Tests.{Means, means-and, means-lt}
 use Rattle.labels.specs.Directions.{Directions}
 use Rattle.labels.specs.Flags.{numbered, nodesFrom, EmptyFrom, movedAt, byLabel, Paired, evenFrom, pairFrom, PairsPut}
 use Rattle.labels.proofs.Directions.{node-small}

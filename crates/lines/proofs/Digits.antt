@@ -8,7 +8,7 @@ use native.Mathlib.Omega.{arith}
 use borrow.Author.Tests.{ltb-true, ltb-false, lt-ltb, le-ltb}
 use lib.Dec.{ltb}
 use lib.ListN.{length, getD, length-append}
-use Rattle.hypercube.proofs.Tests.{cases}
+use Rattle.hypercube.specs.Tests.{cases}
 use Rattle.lines.specs.Text.{digit, decimalOf, decimal}
 
 one-digit : (k x : ℕ) → x < 10 → decimalOf (suc k) x ≡ digit x ∷ []

@@ -7,8 +7,8 @@ use native.Mathlib.Omega.{arith}
 use borrow.Author.Tests.{lt-ltb, le-ltb, eq-eqb, ne-eqb, eqb-true}
 use lib.Dec.{eqb, ltb}
 use lib.ListN.{length}
-use Rattle.hypercube.proofs.Tests.{cases}
-use Rattle.history.specs.Calls.{word}
+use Rattle.hypercube.specs.Words.{word}
+use Rattle.hypercube.specs.Tests.{cases}
 use Rattle.cube.specs.Called.{setupNumber, setupRecord, delivered, SetUp}
 use Rattle.log.specs.Frames.{firstNumber, firstRecord, First}
 

@@ -7,7 +7,8 @@ use mathlib.Core.List.{List}
 use native.Mathlib.Omega.{arith}
 use borrow.Author.Tests.{eq-eqb, ne-eqb}
 use lib.ListN.{length, take, drop, length-drop}
-use Rattle.history.specs.Calls.{word}
+use Rattle.hypercube.specs.Words.{word}
+use Rattle.hypercube.specs.Replies.{heard}
 use Rattle.tally.specs.declared.Outcome.{Outcome}
 use Rattle.tally.specs.declared.Outcome.the-variants.{Setup, Done, Granted, Refused}
 use Rattle.cube.specs.Called.{delivered, Called}
@@ -17,28 +18,32 @@ use Rattle.log.specs.declared.Next.the-variants.{Frame}
 use Rattle.log.specs.declared.Step.{Step}
 use Rattle.log.specs.declared.Step.the-variants.{Line, Last, End}
 use Rattle.log.specs.Next.{nextOf}
-use Rattle.log.specs.Frames.{firstNumber, firstRecord, readReply, laterOutcome, laterRecord, zeros, Later}
+use Rattle.log.specs.Frames.{firstNumber, firstRecord, told, laterOutcome, laterRecord, zeros, Later}
 use Rattle.log.specs.Steps.{onFrame, onRecord, OnFrame, stepBy, recordBy, stepOf, stepRecord, Stepped}
 use Rattle.log.proofs.Nexts.{framed}
 
 -- ---- the outcome that a number and a reply say
 
 module _ (m : ℕ) (p : List ℕ) where
-  pub reply-refused : (t : ℕ) → m ≢ 0 → t ≡ word p 6 → Refused m t ≡ readReply m p
-  unfolding readReply
-  reply-refused t z e = rw (ne-eqb m 0 z, e)
+  pub reply-2 : m ≡ 2 → Refused m 0 ≡ told (heard m p)
+  unfolding heard
+  reply-2 e = rw e
+
+  pub reply-refused : (t : ℕ) → m ≢ 2 → m ≢ 0 → t ≡ word p 6 → Refused m t ≡ told (heard m p)
+  unfolding heard
+  reply-refused t y z e = rw (ne-eqb m 0 z, ne-eqb m 2 y, e)
 
   pub reply-granted : (j low stars t : ℕ) → m ≡ 0 → word p 2 ≡ 0x8001 → j ≡ word p 4 → low ≡ word p 6 → stars ≡ word p 8 → t ≡ word p 10
-      → Granted j low stars t ≡ readReply m p
-  unfolding readReply
+      → Granted j low stars t ≡ told (heard m p)
+  unfolding heard
   reply-granted j low stars t z k a b d e = rw (eq-eqb m 0 z, eq-eqb (word p 2) 0x8001 k, a, b, d, e)
 
-  pub reply-done : (v : ℕ) → m ≡ 0 → word p 2 ≢ 0x8001 → v ≡ word p 4 → Done v ≡ readReply m p
-  unfolding readReply
+  pub reply-done : (v : ℕ) → m ≡ 0 → word p 2 ≢ 0x8001 → v ≡ word p 4 → Done v ≡ told (heard m p)
+  unfolding heard
   reply-done v z k e = rw (eq-eqb m 0 z, ne-eqb (word p 2) 0x8001 k, e)
 
 -- a call with a reply buffer of 12 zeros
-pub later-told : (r f r′ p′ : List ℕ) (m : ℕ) (o : Outcome) → Called delivered r f zeros m r′ p′ → o ≡ readReply m p′ → Later r f o r′
+pub later-told : (r f r′ p′ : List ℕ) (m : ℕ) (o : Outcome) → Called delivered r f zeros m r′ p′ → o ≡ told (heard m p′) → Later r f o r′
 unfolding laterOutcome laterRecord
 later-told r f r′ p′ m o c e = record { outcome = rw (e, c .returned, c .reply); «record» = c .«record» }
 

@@ -5,9 +5,12 @@ use mathlib.Core.Bool.{cond, not, _||_}
 use mathlib.Core.List.{List}
 use lib.Dec.{eqb, ltb}
 use lib.ListN.{length, replicate}
-use Rattle.history.specs.Calls.{word}
+use Rattle.hypercube.specs.Words.{word}
+use Rattle.hypercube.specs.Replies.{heard}
 use Rattle.tally.specs.declared.Outcome.{Outcome}
-use Rattle.tally.specs.declared.Outcome.the-variants.{Done, Granted, Refused}
+use Rattle.tally.specs.declared.Outcome.the-variants as outcome
+use Rattle.hypercube.specs.declared.Reply.{Reply}
+use Rattle.hypercube.specs.declared.Reply.the-variants.{Granted, Refused, Done}
 use Rattle.cube.specs.Called.{setupNumber, setupRecord, callNumber, callRecord, callReply}
 
 -- "first a set-up (0x0301, length 6, field n)"; "A first frame that isn't a right set-up is refused with 3, 4, 5 or 7", judged as a call's causes are
@@ -20,12 +23,11 @@ firstNumber r f =
 unfoldable pub firstRecord : List ℕ → List ℕ → List ℕ
 firstRecord r f = cond (eqb (firstNumber r f) 0) (setupRecord r (word f 4)) r
 
--- "Fields are the reply's, in order": of the number that a call returned and its reply
-unfoldable pub readReply : ℕ → List ℕ → Outcome
-readReply number p =
-    cond (eqb number 0)
-    (cond (eqb (word p 2) 0x8001) (Granted (word p 4) (word p 6) (word p 8) (word p 10)) (Done (word p 4)))
-    (Refused number (word p 6))
+-- "Fields are the reply's, in order"
+abbrev pub told : Reply → Outcome
+told (Granted j low stars t) = outcome.Granted j (low .0) stars t
+told (Refused m t) = outcome.Refused m t
+told (Done v) = outcome.Done v
 
 -- the reply buffer of every later frame
 abbrev pub zeros : List ℕ
@@ -33,7 +35,7 @@ zeros = replicate 12 0
 
 -- a later frame is a call, to which a set-up is no known kind: "a later set-up is refused 4"
 unfoldable pub laterOutcome : List ℕ → List ℕ → Outcome
-laterOutcome r f = readReply (callNumber r f zeros) (callReply r f zeros)
+laterOutcome r f = told (heard (callNumber r f zeros) (callReply r f zeros))
 
 unfoldable pub laterRecord : List ℕ → List ℕ → List ℕ
 laterRecord r f = callRecord r f zeros

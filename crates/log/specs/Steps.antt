@@ -5,7 +5,7 @@ use mathlib.Core.Bool.{Bool, cond}
 use mathlib.Core.List.{List}
 use lib.Dec.{eqb}
 use lib.ListN.{take}
-use Rattle.history.specs.Calls.{word}
+use Rattle.hypercube.specs.Words.{word}
 use Rattle.tally.specs.declared.Outcome.the-variants.{Setup, Refused}
 use Rattle.log.specs.declared.Cursor.{Cursor}
 use Rattle.log.specs.declared.Next.{Next}

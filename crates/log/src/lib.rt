@@ -5,7 +5,8 @@ ghost use mathlib.Core.Bool.{cond};
 ghost use lib.ListN.{length, drop};
 ghost use Rattle.log.specs.declared.Next.the-variants.{Broken, More};
 ghost use Rattle.log.specs.Next.{nextOf};
-ghost use Rattle.log.specs.Frames.{First, Later, readReply};
+ghost use Rattle.hypercube.specs.Replies.{heard};
+ghost use Rattle.log.specs.Frames.{First, Later, told};
 ghost use Rattle.log.specs.Steps.{OnFrame, Stepped};
 
 // The place in a window up to which frames were read.
@@ -91,11 +92,14 @@ fn set_up(rec: &mut [u8], frame: &[u8]) -> u32
     cube::cube_setup(rec, record::word(frame, 4) as u32)
 }
 
-// The outcome of a call, from the number that it returned and the reply.
+// The outcome of a call, from the number that it returned and the reply, which 2 leaves unwritten.
 fn read_reply(number: u32, reply: &[u8]) -> Outcome
     requires { ⌜ length (now reply) ≡ 12 ⌝ }
-    ensures { λ o. ⌜ o ≡ readReply number (now (reply .entry)) ⌝ }
+    ensures { λ o. ⌜ o ≡ told (heard number (now (reply .entry))) ⌝ }
 {
+    if number == 2 {
+        return Outcome::Refused { number, tried: 0 };
+    }
     if number != 0 {
         return Outcome::Refused {
             number,

@@ -8,8 +8,8 @@ use borrow.Author.Tests.{eqb-false, ltb-true, ltb-false}
 use lib.Dec.{eqb, ltb}
 use lib.ListN.{length, getD, take, drop, length-append, length-take, length-drop, List·getD-eq-default}
 use lib.Seq.{length-take-le, getD-take, getD-drop}
-use Rattle.hypercube.proofs.Tests.{cases}
-use Rattle.history.specs.Calls.{word}
+use Rattle.hypercube.specs.Words.{word}
+use Rattle.hypercube.specs.Tests.{cases}
 use Rattle.tally.specs.declared.Tally.{Tally}
 use Rattle.lines.specs.Text.{item, totalsOf}
 use Rattle.lines.proofs.Lengths.{totals-length}

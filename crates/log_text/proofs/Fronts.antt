@@ -7,7 +7,7 @@ use borrow.Author.Tests.{eqb-true, eqb-false}
 use lib.Dec.{eqb}
 use lib.ListN.{length, getD, set, take, drop, length-set, length-drop}
 use lib.Seq.{getD-set-same, getD-set-other, getD-take, getD-drop, length-take-le, ext-getD}
-use Rattle.hypercube.proofs.Tests.{cases}
+use Rattle.hypercube.specs.Tests.{cases}
 
 -- of the window w₀ the first i bytes from `at` on were moved, which left w
 pub record Fronted (w₀ : List ℕ) (at : ℕ) (w : List ℕ) (i : ℕ) : Type 0 where

@@ -8,8 +8,8 @@ use native.Mathlib.Omega.{arith}
 use lib.Dec.{eqb}
 use lib.ListN.{length, drop, take, length-drop}
 use lib.Seq.{drop-drop, drop-append-le}
-use Rattle.hypercube.proofs.Tests.{cases}
-use Rattle.history.specs.Calls.{word}
+use Rattle.hypercube.specs.Tests.{cases}
+use Rattle.hypercube.specs.Words.{word}
 use Rattle.tally.specs.declared.Outcome.{Outcome}
 use Rattle.tally.specs.Counts.{counted}
 use Rattle.lines.specs.Text.{totalsOf}

@@ -8,7 +8,7 @@ use native.Mathlib.Omega.{arith}
 use borrow.Author.Tests.{leb-true, leb-false, le-leb, lt-leb}
 use lib.Dec.{leb}
 use lib.ListN.{length}
-use Rattle.hypercube.proofs.Tests.{cases}
+use Rattle.hypercube.specs.Tests.{cases}
 use Rattle.lines.proofs.Puts.{put-then}
 use Rattle.log_text.specs.declared.Place.{Place}
 use Rattle.log_text.specs.Moves.{Moves, Waiting, Turned, Ran}

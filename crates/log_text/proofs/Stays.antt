@@ -8,8 +8,8 @@ use native.Mathlib.Omega.{arith}
 use lib.Dec.{eqb}
 use lib.ListN.{length, take, length-append}
 use lib.Seq.{take-append-le}
-use Rattle.hypercube.proofs.Tests.{cases}
-use Rattle.history.specs.Calls.{word}
+use Rattle.hypercube.specs.Tests.{cases}
+use Rattle.hypercube.specs.Words.{word}
 use Rattle.log.specs.declared.Next.{Next}
 use Rattle.log.specs.declared.Next.the-variants as next
 use Rattle.log.specs.declared.Step.{Step}

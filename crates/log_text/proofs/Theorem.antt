@@ -2,16 +2,14 @@
 use Prim.Native.Nat.{ℕ, _+_, _≤_, min}
 use mathlib.Core.Path.{_≡_, refl, sym, ap, _∙_}
 use mathlib.Core.Logic.{_≢_}
-use mathlib.Core.Bool.{true, false}
+use mathlib.Core.Bool.{true}
 use mathlib.Core.List.{List, [], _∷_, _++_}
 use native.Mathlib.Omega.{arith}
 use borrow.Author.Tests.{eq-eqb, ne-eqb, eqb-true}
 use lib.Dec.{eqb}
 use lib.ListN.{length, take, drop, length-append}
 use lib.Seq.{take-append-seam, drop-append-seam}
-use Rattle.hypercube.proofs.Tests.{cases}
-use Rattle.history.specs.Calls.{word}
-use Rattle.history.specs.Verdicts.{Verdict, refused}
+use Rattle.hypercube.specs.Words.{word}
 use Rattle.tally.specs.declared.Outcome.{Outcome}
 use Rattle.tally.specs.declared.Outcome.the-variants.{Setup, Done, Granted, Refused}
 use Rattle.tally.specs.declared.Tally.{Tally}
@@ -19,14 +17,14 @@ use Rattle.tally.specs.Counts.{none, counted}
 use Rattle.lines.specs.Text.{totalsOf}
 use Rattle.record.specs.Layout.{recordSize}
 use Rattle.cube.specs.Called.{setupRecord, callRecord, delivered}
-use Rattle.cube.specs.Run.{Exchanges, begin, _next_, replies, heard, recordAfter, number, reply}
+use Rattle.cube.specs.Run.{Exchanges, begin, _next_, recordAfter}
 use Rattle.cube.proofs.Theorem.{heard-is, demand3}
 use Rattle.log.specs.declared.Cursor.{Cursor}
 use Rattle.log.specs.declared.Next.{Next}
 use Rattle.log.specs.declared.Next.the-variants as next
 use Rattle.log.specs.declared.Step.the-variants.{Line, More, End}
 use Rattle.log.specs.Next.{nextOf}
-use Rattle.log.specs.Frames.{firstNumber, firstRecord, readReply, zeros, laterOutcome, laterRecord}
+use Rattle.log.specs.Frames.{firstNumber, firstRecord, zeros, laterOutcome, laterRecord, told}
 use Rattle.log.specs.Steps.{onFrame, onRecord, stepOf, stepRecord}
 use Rattle.log.proofs.Nexts.{framed, word-append, next-none, next-whole}
 use Rattle.log.proofs.Firsts.{set-up}
@@ -34,25 +32,7 @@ use Rattle.log_text.specs.Text.{Prints, ends, stops, goes}
 use Rattle.log_text.proofs.Waits.{never-more}
 use Rattle.log_text.proofs.WrongFirst.{wrong-first}
 use Rattle.log_text.proofs.Every.{parts}
-use Rattle.log_text.specs.Right.{SetsUp, Whole, joined, told, calls, ending, outcomeBy, linesBy, logBy, LogRight}
-
--- ---- what is read from a number and a reply is what is heard
-
--- with another number than 2
-heard-other : (m : ℕ) (p : List ℕ) → eqb m 2 ≡ false → readReply m p ≡ told (heard m p)
-unfolding readReply heard
-heard-other m p h = cases (eqb m 0) (λ a. cases (eqb (word p 2) 0x8001) (λ b. rw (a, b)) (λ b. rw (a, b))) (λ a. rw (a, h))
-
--- with 2 the reply keeps its zeros
-heard-2 : (m : ℕ) (p : List ℕ) (v : Verdict) → m ≡ 2 → heard m p ≡ v → p ≡ replies v zeros → readReply m p ≡ told v
-unfolding readReply heard word
-heard-2 m p v e h q =
-    let k : v ≡ refused 2 0 = sym (rw e at h) in
-    let z : p ≡ zeros = rw k at q in
-    rw (e, z, k)
-
-read-heard : (m : ℕ) (p : List ℕ) (v : Verdict) → heard m p ≡ v → p ≡ replies v zeros → readReply m p ≡ told v
-read-heard m p v h q = cases (eqb m 2) (λ t. heard-2 m p v (eqb-true m 2 t) h q) (λ t. heard-other m p t ∙ ap told h)
+use Rattle.log_text.specs.Right.{SetsUp, Whole, joined, calls, ending, outcomeBy, linesBy, logBy, LogRight}
 
 -- ---- a whole frame at the front of the input
 
@@ -101,10 +81,7 @@ module _ (n : ℕ) (small : n ≤ 10) (b : List ℕ) (whole : length b ≡ recor
   -- a later frame is told what the history says
   later-told : (es : Exchanges) (f : List ℕ) → laterOutcome (recordAfter delivered (setupRecord b n) es) f ≡ outcomeBy n es f
   unfolding laterOutcome
-  later-told es f =
-      read-heard (number delivered (setupRecord b n) es (calls f)) (reply delivered (setupRecord b n) es (calls f)) _
-      (heard-is n small b whole es (calls f))
-      (demand3 n small b whole .list .calls es (calls f) .replied)
+  later-told es f = ap told (heard-is n small b whole es (calls f))
 
   -- the lines of the frames, up to m of them, and what is printed of the rest
   module _ (rest : List ℕ) (e : Next) (m : ℕ) (few : m ≤ 4294967295)

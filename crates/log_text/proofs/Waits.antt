@@ -7,8 +7,8 @@ use mathlib.Core.List.{List}
 use native.Mathlib.Omega.{arith}
 use lib.Dec.{eqb}
 use lib.ListN.{length, take}
-use Rattle.hypercube.proofs.Tests.{cases}
-use Rattle.history.specs.Calls.{word}
+use Rattle.hypercube.specs.Words.{word}
+use Rattle.hypercube.specs.Tests.{cases}
 use Rattle.log.specs.declared.Next.{Next}
 use Rattle.log.specs.declared.Next.the-variants as next
 use Rattle.log.specs.declared.Step.the-variants.{More}

@@ -9,8 +9,8 @@ use borrow.Author.Tests.{eq-eqb, ne-eqb, lt-leb, ltb-true, ltb-false}
 use lib.Dec.{ltb}
 use lib.ListN.{length, take}
 use lib.Seq.{length-take-le, getD-take}
-use Rattle.hypercube.proofs.Tests.{cases}
-use Rattle.history.specs.Calls.{word}
+use Rattle.hypercube.specs.Words.{word}
+use Rattle.hypercube.specs.Tests.{cases}
 use Rattle.tally.specs.declared.Outcome.the-variants.{Refused}
 use Rattle.tally.specs.Counts.{none, counted}
 use Rattle.lines.specs.Text.{totalsOf}

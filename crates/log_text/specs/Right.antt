@@ -5,10 +5,10 @@ use mathlib.Core.Logic.{_≢_, _⊎_}
 use mathlib.Core.Bool.{true}
 use mathlib.Core.List.{List, [], _∷_, _++_}
 use lib.ListN.{length}
-use Rattle.history.specs.Calls.{word}
-use Rattle.history.specs.Verdicts.{Verdict, granted, refused, done, verdict}
+use Rattle.hypercube.specs.Words.{word}
+use Rattle.history.specs.Verdicts.{verdict}
 use Rattle.tally.specs.declared.Outcome.{Outcome}
-use Rattle.tally.specs.declared.Outcome.the-variants.{Setup, Done, Granted, Refused}
+use Rattle.tally.specs.declared.Outcome.the-variants.{Setup, Refused}
 use Rattle.tally.specs.declared.Tally.{Tally}
 use Rattle.tally.specs.Counts.{none, counted}
 use Rattle.lines.specs.Text.{totalsOf}
@@ -17,7 +17,7 @@ use Rattle.log.specs.declared.Cursor.{Cursor}
 use Rattle.log.specs.declared.Next.{Next}
 use Rattle.log.specs.declared.Next.the-variants.{Frame, More, End, Broken}
 use Rattle.log.specs.Next.{nextOf}
-use Rattle.log.specs.Frames.{zeros}
+use Rattle.log.specs.Frames.{told, zeros}
 use Rattle.log_text.specs.Text.{lineAfter, Prints}
 
 -- "06 00 01 03", then n: a set-up of length 6 and kind 0x0301
@@ -35,12 +35,6 @@ Whole (f ∷ fs) = ((4 ≤ length f) × (word f 0 ≡ length f)) × Whole fs
 abbrev pub joined : List (List ℕ) → List ℕ → List ℕ
 joined [] rest = rest
 joined (f ∷ fs) rest = f ++ joined fs rest
-
--- the outcome that a verdict is told as
-abbrev pub told : Verdict → Outcome
-told (granted j low stars t) = Granted j low stars t
-told (refused m t) = Refused m t
-told (done v) = Done v
 
 -- a frame as a call
 abbrev pub calls : List ℕ → Exchange

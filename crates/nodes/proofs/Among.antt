@@ -10,7 +10,7 @@ use Rattle.hypercube.specs.Bits.{bit}
 use Rattle.hypercube.specs.Lists.{In, among}
 use Rattle.hypercube.specs.Subcubes.{vertices}
 use Rattle.hypercube.proofs.Bits.{lt-or, bit-suc, bit-high, bit-cases}
-use Rattle.hypercube.proofs.Tests.{means-eq, same-test}
+use Rattle.hypercube.specs.Tests.{means-eq, same-test}
 use Rattle.hypercube.proofs.Vertices.{Fixed, in-vertices, vertices-in}
 use Rattle.history.proofs.Counting.{means-among}
 
@@ -52,7 +52,9 @@ module _ (e s b : ℕ) (f : Fixed e s b) (below : b < 2 ^ e) where
   in-sum : (y : ℕ) → y < 2 ^ e → In y (vertices e s b) ↔ (b + bitAnd y s ≡ y)
   in-sum y h = (
     λ m. sum-of e s b y below h f (λ i l z. in-vertices e s b y f m i (inr z)),
-    λ q. vertices-in e s b y f (λ i o. ⊎-elim (λ l. of-sum e s b y f q i l (⊎-elim (λ g. absurd (omega arith)) (λ z. z) o)) (λ g. bit-high y e i h g ∙ sym (bit-high b e i below g)) (lt-or i e)),
+    λ q. vertices-in e s b y f (λ i o.
+        ⊎-elim (λ l. of-sum e s b y f q i l (⊎-elim (λ g. absurd (omega arith)) (λ z. z) o))
+        (λ g. bit-high y e i h g ∙ sym (bit-high b e i below g)) (lt-or i e)),
   )
 
   pub among-sum : (y : ℕ) → y < 2 ^ e → among y (vertices e s b) ≡ eqb (b + bitAnd y s) y

@@ -5,10 +5,12 @@ use mathlib.Core.List.{List, [], _∷_, _++_, append-assoc}
 use native.Mathlib.Omega.{arith}
 use lib.ListN.{length, set, length-append, length-set}
 use lib.Seq.{set-append-left}
+use Rattle.hypercube.specs.Words.{words}
 use Rattle.state.specs.declared.State.{State}
 use Rattle.state.specs.States.{withCondition, withMap, withHolders}
-use Rattle.record.specs.Layout.{mapAt, conditionsAt, holdersAt, words, encode}
-use Rattle.record.proofs.Round.{Sized, length-words}
+use Rattle.state.proofs.Valid.{Sized}
+use Rattle.record.specs.Layout.{mapAt, conditionsAt, holdersAt, encode}
+use Rattle.record.proofs.Round.{length-words}
 
 -- an entry of the second of two lists set
 set-past : (xs ys : List ℕ) (k j v : ℕ) → length xs + k ≡ j → set (xs ++ ys) j v ≡ xs ++ set ys k v

@@ -5,11 +5,12 @@ use mathlib.Core.List.{List}
 use native.Mathlib.Omega.{arith}
 use lib.ListN.{length, getD, set}
 use Rattle.hypercube.proofs.Filled.{Swept, swept-none, swept-put, swept-all}
-use Rattle.history.specs.Calls.{word}
+use Rattle.hypercube.specs.Words.{word}
 use Rattle.state.specs.declared.State.{State}
 use Rattle.state.specs.States.{withMap, withHolders}
+use Rattle.state.proofs.Valid.{Sized}
 use Rattle.record.specs.Layout.{holdersAt, encode, decode, Encoded}
-use Rattle.record.proofs.Round.{Sized, decode-holder, decode-encode}
+use Rattle.record.proofs.Round.{decode-holder, decode-encode}
 
 -- a list of a state's, that may be put anew
 pub record Part : Type 0 where

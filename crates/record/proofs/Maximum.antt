@@ -9,7 +9,7 @@ use lib.Bits.{bitOr, or-add-and, and-le-l, and-le-r}
 use lib.Dec.{eqb}
 use lib.ListN.{length, getD, take, drop, length-take, length-drop, drop-of-length-le}
 use lib.Seq.{drop-cons, getD-take, getD-drop}
-use Rattle.hypercube.proofs.Tests.{means-eq, same-test}
+use Rattle.hypercube.specs.Tests.{means-eq, same-test}
 use Rattle.record.specs.Highest.{highestOf, allZero}
 
 -- ---- the entries from i on

@@ -7,10 +7,10 @@ use native.Mathlib.Omega.{arith}
 use borrow.Author.Tests.{le-leb, lt-leb}
 use lib.Dec.{eqb, leb}
 use lib.ListN.{length, getD}
+use Rattle.hypercube.specs.Words.{word}
 use Rattle.hypercube.specs.Lists.{anyBelow}
 use Rattle.hypercube.proofs.Below.{means-each}
-use Rattle.hypercube.proofs.Tests.{Means, means-iff, means-eq, means-le, means-and, same-test}
-use Rattle.history.specs.Calls.{word}
+use Rattle.hypercube.specs.Tests.{Means, means-iff, means-eq, means-le, means-and, same-test}
 use Rattle.state.specs.Valid.{nodesRight}
 use Rattle.state.proofs.Below.{any-not}
 use Rattle.state.proofs.Valid.{means-nodes}

@@ -10,13 +10,14 @@ use native.Mathlib.Omega.{arith}
 use borrow.Author.Tests.{eq-eqb}
 use lib.ListN.{length, getD, length-append, List·getD-append}
 use lib.Seq.{ext-getD}
+use Rattle.hypercube.specs.Words.{word, words}
 use Rattle.hypercube.proofs.Bits.{lt-or}
 use Rattle.hypercube.proofs.Lists.{getD-past, length-of, getD-each, is-each}
-use Rattle.hypercube.proofs.Tests.{means-true, means-eq, means-and}
-use Rattle.history.specs.Calls.{word}
+use Rattle.hypercube.specs.Tests.{means-true, means-eq, means-and}
 use Rattle.state.specs.declared.State.{State}
 use Rattle.state.specs.Valid.{valid}
-use Rattle.record.specs.Layout.{mapAt, conditionsAt, holdersAt, recordSize, words, encode, decode, Encoded, headRight, validRecord}
+use Rattle.state.proofs.Valid.{Sized}
+use Rattle.record.specs.Layout.{mapAt, conditionsAt, holdersAt, recordSize, encode, decode, Encoded, headRight, validRecord}
 
 -- ---- two bytes of each number
 
@@ -38,12 +39,6 @@ high-at (x ∷ xs) zero h = refl
 high-at (x ∷ xs) (suc i) h = let e : 2 * suc i + 1 ≡ suc (suc (2 * i + 1)) = omega arith in rw e (high-at xs i (omega arith))
 
 -- ---- the record of a state
-
--- a state's arrays have their lengths, as the code's always do
-pub record Sized (s : State) : Type 0 where
-  pub directions : length (s .map) ≡ 10
-  pub holders : length (s .holders) ≡ 1024
-  pub conditions : length (s .conditions) ≡ 1024
 
 -- the parts of a record: its first bytes, and the rest from the map, from the zero byte and from the holders on
 abbrev first : State → List ℕ

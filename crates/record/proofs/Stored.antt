@@ -7,9 +7,10 @@ use lib.ListN.{length, getD, set}
 use lib.Seq.{ext-getD, getD-set-other}
 use Rattle.hypercube.proofs.Filled.{filled-none, filled-next}
 use Rattle.state.specs.declared.State.{State}
+use Rattle.state.proofs.Valid.{Sized}
 use Rattle.record.specs.Layout.{recordSize, encode}
 use Rattle.record.specs.Stored.{Begun, Stored}
-use Rattle.record.proofs.Round.{Sized, length-encode}
+use Rattle.record.proofs.Round.{length-encode}
 
 module _ {s : State} {r : List ℕ} where
   -- what stands there before a loop

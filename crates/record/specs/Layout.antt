@@ -7,7 +7,7 @@ use mathlib.Core.List.{List, [], _∷_, _++_, map}
 use lib.Dec.{eqb}
 use lib.ListN.{length, getD}
 use Rattle.hypercube.specs.Lists.{from}
-use Rattle.history.specs.Calls.{word}
+use Rattle.hypercube.specs.Words.{word, words}
 use Rattle.state.specs.declared.State.{State}
 use Rattle.state.specs.Valid.{valid}
 
@@ -26,11 +26,6 @@ conditionsAt = 2064
 
 abbrev pub conditionsEnd : ℕ
 conditionsEnd = 3088
-
--- two bytes of each number, little-endian
-unfoldable pub words : List ℕ → List ℕ
-words [] = []
-words (x ∷ xs) = (x % 256) ∷ (x / 256) ∷ words xs
 
 -- the record that says a state
 unfoldable pub encode : State → List ℕ

@@ -5,7 +5,7 @@ ghost use mathlib.Core.List.{map};
 ghost use Prim.Native.Nat.{_+_, _*_, _<_, _≤_};
 ghost use lib.ListN.{length, getD};
 ghost use Rattle.hypercube.specs.Lists.{from};
-ghost use Rattle.history.specs.Calls.{word};
+ghost use Rattle.hypercube.specs.Words.{word};
 ghost use Rattle.state.specs.Valid.{nodesRight, valid};
 ghost use Rattle.record.specs.Layout.{holdersAt, conditionsAt, recordSize, encode, decode, headRight, validRecord};
 ghost use Rattle.record.specs.Stored.{Begun, Stored};

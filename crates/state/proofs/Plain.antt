@@ -11,11 +11,12 @@ use lib.ListN.{length, getD, length-map, List·getD-map}
 use lib.Seq.{ext-getD}
 use Rattle.hypercube.proofs.Bits.{lt-or}
 use Rattle.hypercube.proofs.Below.{means-any}
-use Rattle.hypercube.proofs.Tests.{either-way, fails}
+use Rattle.hypercube.specs.Tests.{either-way, fails}
 use Rattle.state.specs.declared.State.{State}
 use Rattle.state.specs.States.{cleared}
 use Rattle.state.specs.Valid.{Valid}
-use Rattle.state.specs.Acts.{holds, freeNode}
+use Rattle.state.specs.Checks.{holds}
+use Rattle.state.specs.Effects.{freeNode}
 
 module _ (s : State) (v : Valid s) (long : length (s .holders) ≡ 1024) (j : ℕ) (set : j ≢ 0) (none : holds s j ≡ false) where
   not-mine : (x : ℕ) → x < 1024 → getD (s .holders) x 0 ≢ j

@@ -1,50 +1,80 @@
--- Each way out of a call, in the table's order: what it is told where the earlier checks pass. Assumes nothing.
-use Prim.Native.Nat.{ℕ, _^_, _<_, _≤_}
+-- A call's checks in order: the first that is met is its refusal, and where none is, the call does what it does. What a job is found to hold, and
+-- what is told of a walk. Assumes nothing.
+use Prim.Native.Nat.{ℕ, zero, suc, _<_, _≤_}
 use mathlib.Core.Logic.{_≢_}
 use mathlib.Core.Path.{_≡_, refl, sym, ap, _∙_}
-use mathlib.Core.Bool.{Bool, true, false, not, cond}
-use mathlib.Core.List.{List}
-use native.Mathlib.Omega.{arith}
-use borrow.Author.Tests.{lt-ltb, le-ltb, ltb-false, lt-leb, le-leb, eq-eqb, ne-eqb, eqb-false}
+use mathlib.Core.Bool.{Bool, true, false, not}
+use mathlib.Core.List.{List, [], _∷_, _++_}
+use borrow.Author.Tests.{ltb-false, eq-eqb, ne-eqb, eqb-false}
 use lib.Dec.{eqb, ltb}
 use lib.ListN.{getD}
-use Rattle.hypercube.specs.Lists.{countBelow}
+use Rattle.hypercube.specs.Lists.{anyBelow, countBelow}
 use Rattle.hypercube.specs.Bits.{width}
+use Rattle.hypercube.specs.Checks.{Check, firstNumber, Clear, StopsAt, numberAt}
 use Rattle.hypercube.specs.Labels.{node}
 use Rattle.hypercube.specs.Subcubes.{vertices}
+use Rattle.hypercube.specs.Tests.{cases}
 use Rattle.hypercube.specs.declared.Node.{Node}
 use Rattle.hypercube.specs.declared.Subcube.{Subcube}
 use Rattle.hypercube.specs.declared.Walk.{Walk}
 use Rattle.hypercube.specs.declared.Walk.the-variants.{Found, NoneFree}
+use Rattle.hypercube.proofs.Checks.{clear-by}
 use Rattle.labels.specs.Flags.{numbered}
 use Rattle.labels.specs.Relabelling.{relabelling}
 use Rattle.labels.specs.declared.Relabelled.{Relabelled}
 use Rattle.state.specs.declared.State.{State}
 use Rattle.state.specs.declared.Call.{Call}
 use Rattle.state.specs.declared.Step.{Step}
-use Rattle.state.specs.declared.Reply.the-variants.{Granted, Refused, Done}
-use Rattle.state.specs.States.{withCondition, withMap, withHolders, given, cleared}
-use Rattle.state.specs.Valid.{anyBelow, valid}
-use Rattle.state.specs.Acts.{step, refuse, nodeCount, holds, anyHeld, allowed, toldOf, reportStep, relabelStep, walkOf, grantStep, fieldCause}
-use Rattle.state.specs.Acts.{byFields, requestStep, heldBy, growStep, releaseStep, acted, called}
+use Rattle.hypercube.specs.declared.Reply.the-variants.{Granted, Refused, Done}
+use Rattle.state.specs.States.{withMap, withHolders, given, cleared}
+use Rattle.state.specs.Valid.{valid}
+use Rattle.state.specs.Checks.{nodeCount, holds, heldBy, anyHeld, fieldChecks, fieldCause}
+use Rattle.state.specs.Effects.{step, Relabels, effected, grantStep}
+use Rattle.state.specs.Acts.{refuse, guarded, acted, called}
 use Rattle.state.specs.Walked.{triedIn}
 use Rattle.state.proofs.Below.{any-counted}
 
--- ---- a report that node x is in condition v
+-- ---- any list of checks
 
-module _ (s : State) (x v : ℕ) where
-  pub report-8 : nodeCount s ≤ x → refuse s 8 ≡ reportStep s x v
-  unfolding reportStep
-  report-8 h = simp (le-ltb _ _ h)
+module _ (s : State) where
+  -- the first that is met is the refusal
+  pub stopped : (ks : List Check) (t : Step) (i : ℕ) → StopsAt ks i → refuse s (numberAt ks i) ≡ guarded s ks t
+  unfolding guarded
+  stopped [] t i e = absurd e
+  stopped (k ∷ ks) t zero e = rw e
+  stopped (k ∷ ks) t (suc i) e = rw (e .0) (stopped ks t i (e .1))
 
-  module _ (h : x < nodeCount s) {c : ℕ} (e : c ≡ getD (s .conditions) x 0) {b : Bool} (q : b ≡ allowed v c) where
-    pub report-12 : b ≡ false → refuse s 12 ≡ reportStep s x v
-    unfolding reportStep
-    report-12 y = simp (lt-ltb _ _ h, ← e, sym q ∙ y)
+  -- where none is met, the call does what it does
+  pub runs : (ks : List Check) (t : Step) → Clear ks → {u : Step} → u ≡ t → u ≡ guarded s ks t
+  unfolding guarded
+  runs [] t e h = h
+  runs (k ∷ ks) t e h = rw (e .0) (runs ks t (e .1) h)
 
-    pub report-done : b ≡ true → {t : ℕ} → t ≡ toldOf s x v → step (withCondition s x v) (Done t) ≡ reportStep s x v
-    unfolding reportStep
-    report-done y r = simp (lt-ltb _ _ h, ← e, sym q ∙ y, r)
+  -- by the number of the first that is met
+  pub stopped-by : (ks ms : List Check) (t : Step) {m : ℕ} → m ≡ firstNumber ks → m ≢ 0 → refuse s m ≡ guarded s (ks ++ ms) t
+  unfolding guarded firstNumber
+  stopped-by [] ms t e p = absurd (p e)
+  stopped-by (k ∷ ks) ms t e p =
+      cases (k .met) (λ d. rw d (ap (refuse s) (rw d at e))) (λ d. rw d (stopped-by ks ms t (rw d at e) p))
+
+-- ---- m is the first cause that the fields of a request or a growth meet
+
+module _ (s : State) (j k f : ℕ) {m : ℕ} (e : m ≡ fieldCause s j k f) where
+  pub fields-refused : (ms : List Check) (t : Step) → m ≢ 0 → refuse s m ≡ guarded s (fieldChecks s j k f ++ ms) t
+  unfolding fieldCause
+  fields-refused ms t = stopped-by s (fieldChecks s j k f) ms t e
+
+  module _ (z : m ≡ 0) where
+    clear : Clear (fieldChecks s j k f)
+    unfolding fieldCause
+    clear = clear-by (fieldChecks s j k f) refl (sym e ∙ z)
+
+    pub fields-fit : (j ≢ 0) × (k ≤ s .n)
+    fields-fit = (eqb-false j 0 (clear .0), ltb-false (s .n) k (clear .1 .0))
+
+    -- none of them is met, and what is known of the checks after them
+    pub fields-then : {A : Type 0} → A → (eqb j 0 ≡ false) × ((ltb (s .n) k ≡ false) × ((ltb 3 f ≡ false) × A))
+    fields-then h = (clear .0, (clear .1 .0, (clear .1 .1 .0, h)))
 
 -- ---- a job j, and k, the number of nodes that it is found to hold below N
 
@@ -58,105 +88,17 @@ module _ (s : State) (j N k : ℕ) (e : N ≡ nodeCount s) (q : k ≡ countBelow
   pub holds-some : k ≢ 0 → holds s j ≡ true
   holds-some z = any-counted (λ x. eqb (getD (s .holders) x 0) j) (nodeCount s) ∙ ap not (ne-eqb _ 0 (λ y. z (counted ∙ y)))
 
--- ---- a release by job j
+-- ---- what was found: a value to tell, a relabelling, whether any node is held below N
 
-module _ (s : State) (j : ℕ) where
-  pub release-6 : j ≡ 0 → refuse s 6 ≡ releaseStep s j
-  unfolding releaseStep
-  release-6 e = simp (eq-eqb _ _ e)
+pub done-as : (s : State) {k m : ℕ} → k ≡ m → step s (Done k) ≡ step s (Done m)
+done-as s e = ap (λ (k : ℕ). step s (Done k)) e
 
-  module _ (p : j ≢ 0) where
-    pub release-11 : holds s j ≡ false → refuse s 11 ≡ releaseStep s j
-    unfolding releaseStep
-    release-11 h = simp (ne-eqb _ _ p, h)
+pub relabelled-as : (s : State) (r : Relabelled) → r ≡ relabelling (s .n) (s .conditions)
+    → step (withMap s (r .map)) (Done (r .size)) ≡ effected s Relabels
+relabelled-as s r h = rw h
 
-    pub release-done : holds s j ≡ true → (k : ℕ) → k ≡ heldBy s j → step (withHolders s (cleared (s .holders) j)) (Done k) ≡ releaseStep s j
-    unfolding releaseStep
-    release-done h k ek = simp (ne-eqb _ _ p, h, ek)
-
--- ---- a relabel
-
-module _ (s : State) (N : ℕ) (e : N ≡ nodeCount s) (b : Bool) (q : b ≡ anyBelow (λ x. not (eqb (getD (s .holders) x 0) 0)) N) where
-  held : b ≡ anyHeld s
-  held = q ∙ ap (anyBelow (λ x. not (eqb (getD (s .holders) x 0) 0))) e
-
-  pub relabel-13 : b ≡ true → refuse s 13 ≡ relabelStep s
-  unfolding relabelStep
-  relabel-13 y = rw (sym held ∙ y, relabelStep)
-
-  pub relabel-done : (r : Relabelled) → r ≡ relabelling (s .n) (s .conditions) → b ≡ false
-      → step (withMap s (r .map)) (Done (r .size)) ≡ relabelStep s
-  unfolding relabelStep
-  relabel-done r h y = rw (h, sym held ∙ y, relabelStep)
-
--- ---- a request or a growth by job j for dimension k under strategy f: its fields
-
-module _ (s : State) (j k f : ℕ) where
-  pub field-6 : j ≡ 0 → 6 ≡ fieldCause s j k f
-  unfolding fieldCause
-  field-6 e = rw (eq-eqb _ _ e)
-
-  module _ (p : j ≢ 0) where
-    pub field-7 : s .n < k → 7 ≡ fieldCause s j k f
-    unfolding fieldCause
-    field-7 h = rw (ne-eqb _ _ p, lt-ltb _ _ h)
-
-    module _ (h : k ≤ s .n) where
-      pub field-9 : 3 < f → 9 ≡ fieldCause s j k f
-      unfolding fieldCause
-      field-9 l = rw (ne-eqb _ _ p, le-ltb _ _ h, lt-ltb _ _ l)
-
-      pub field-none : f ≤ 3 → 0 ≡ fieldCause s j k f
-      unfolding fieldCause
-      field-none l = rw (ne-eqb _ _ p, le-ltb _ _ h, le-ltb _ _ l)
-
-  -- where they meet no cause
-  pub fields-fit : _≡_ {A = ℕ} 0 (fieldCause s j k f) → (j ≢ 0) × (k ≤ s .n)
-  unfolding fieldCause
-  fields-fit e = go (eqb j 0) refl (ltb (s .n) k) refl e
-    where
-      go : (a : Bool) → eqb j 0 ≡ a → (b : Bool) → ltb (s .n) k ≡ b → _≡_ {A = ℕ} 0 (cond a 6 (cond b 7 (cond (ltb 3 f) 9 0))) → (j ≢ 0) × (k ≤ s .n)
-      go true p b q e = absurd (omega arith)
-      go false p true q e = absurd (omega arith)
-      go false p false q e = (eqb-false j 0 p, ltb-false (s .n) k q)
-
-  -- m is the cause that they are found to meet
-  module _ {m : ℕ} (e : m ≡ fieldCause s j k f) where
-    pub fields-refused : m ≢ 0 → (t : Step) → refuse s m ≡ byFields s j k f t
-    fields-refused p t = rw (← e, ne-eqb _ _ p)
-
-    pub fields-passed : m ≡ 0 → (t : Step) → t ≡ byFields s j k f t
-    fields-passed z t = rw (← e, eq-eqb _ _ z)
-
-    pub request-fields : m ≢ 0 → refuse s m ≡ requestStep s j k f
-    unfolding requestStep
-    request-fields p = fields-refused p _
-
-    pub grow-fields : m ≢ 0 → refuse s m ≡ growStep s j k f
-    unfolding growStep
-    grow-fields p = fields-refused p _
-
-    module _ (z : m ≡ 0) where
-      pub request-10 : holds s j ≡ true → refuse s 10 ≡ requestStep s j k f
-      unfolding requestStep
-      request-10 y = rw y (fields-passed z (refuse s 10))
-
-      pub request-walk : holds s j ≡ false → grantStep s j (walkOf s j k f) ≡ requestStep s j k f
-      unfolding requestStep
-      request-walk y = rw y (fields-passed z (grantStep s j (walkOf s j k f)))
-
-      pub grow-11 : holds s j ≡ false → refuse s 11 ≡ growStep s j k f
-      unfolding growStep
-      grow-11 y = rw y (fields-passed z (refuse s 11))
-
-      module _ (y : holds s j ≡ true) {c : ℕ} (ec : c ≡ heldBy s j) where
-        pub grow-17 : 2 ^ k ≤ c → refuse s 17 ≡ growStep s j k f
-        unfolding growStep
-        grow-17 q = rw (y, ← ec, le-leb _ _ q) (fields-passed z (refuse s 17))
-
-        pub grow-walk : c < 2 ^ k → grantStep s j (walkOf s j k f) ≡ growStep s j k f
-        unfolding growStep
-        grow-walk q = rw (y, ← ec, lt-leb _ _ q) (fields-passed z (grantStep s j (walkOf s j k f)))
+pub any-held-as : (s : State) (N : ℕ) → N ≡ nodeCount s → {b : Bool} → b ≡ anyBelow (λ x. not (eqb (getD (s .holders) x 0) 0)) N → b ≡ anyHeld s
+any-held-as s N e q = q ∙ ap (anyBelow (λ x. not (eqb (getD (s .holders) x 0) 0))) e
 
 -- ---- what is told of a walk
 

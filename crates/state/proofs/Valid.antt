@@ -14,11 +14,17 @@ use Rattle.hypercube.specs.Bits.{width}
 use Rattle.hypercube.specs.Labels.{Permutes}
 use Rattle.hypercube.proofs.Bits.{lt-or}
 use Rattle.hypercube.proofs.Below.{means-each}
-use Rattle.hypercube.proofs.Tests.{Means, means-iff, means-eq, means-le, means-not, means-and}
+use Rattle.hypercube.specs.Tests.{Means, means-iff, means-eq, means-le, means-not, means-and}
 use Rattle.labels.proofs.Directions.{Own}
 use Rattle.state.specs.declared.State.{State}
 pub use Rattle.state.specs.Valid.{Valid}
 use Rattle.state.specs.Valid.{entryRight, mapRight, nodeRight, nodesRight, valid}
+
+-- a state's arrays have their lengths, as the code's always do
+pub record Sized (s : State) : Type 0 where
+  pub directions : length (s .map) ≡ 10
+  pub holders : length (s .holders) ≡ 1024
+  pub conditions : length (s .conditions) ≡ 1024
 
 -- a test that goes by whether x is below N
 means-either : (x N : ℕ) {a b : Bool} {P Q : Type 0} → Means a P → Means b Q

@@ -2,4 +2,6 @@
 pub mod States
 pub mod Valid
 pub mod Walked
+pub mod Checks
+pub mod Effects
 pub mod Acts

@@ -6,8 +6,8 @@ use mathlib.Core.Bool.{Bool, not, cond, _&&_}
 use mathlib.Core.List.{List}
 use lib.Dec.{eqb, ltb, leb}
 use lib.ListN.{getD}
-unfoldable pub use Rattle.hypercube.specs.Lists.{allBelow, anyBelow}
 use Rattle.hypercube.specs.Bits.{width}
+use Rattle.hypercube.specs.Lists.{allBelow}
 use Rattle.hypercube.specs.Labels.{Permutes}
 use Rattle.state.specs.declared.State.{State}
 

@@ -4,8 +4,8 @@ use mathlib.Core.List.{List}
 use Rattle.hypercube.specs.Labels.{node}
 use Rattle.hypercube.specs.declared.Walk.{Walk}
 use Rattle.hypercube.specs.declared.Walk.the-variants.{Found, NoneFree}
-use Rattle.state.specs.declared.Reply.{Reply}
-use Rattle.state.specs.declared.Reply.the-variants.{Granted, Refused}
+use Rattle.hypercube.specs.declared.Reply.{Reply}
+use Rattle.hypercube.specs.declared.Reply.the-variants.{Granted, Refused}
 
 -- to job j, by the map ds: granted "job, lowest node, star bits, tried", and "grants, star bits too, are given in node numbers"; or
 -- "refusal 14 with the family's whole count"

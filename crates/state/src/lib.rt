@@ -1,5 +1,6 @@
-// A cube's state, the calls and their replies, as values.
+// A cube's state, the calls, and the state and reply after one, as values.
 use hypercube::Node;
+use hypercube::Reply;
 ghost use mathlib.Core.Path.{_≡_};
 ghost use mathlib.Core.Bool.{not};
 ghost use Prim.Native.Nat.{_^_, _<_, _≤_};
@@ -8,7 +9,7 @@ ghost use lib.ListN.{getD};
 ghost use Rattle.hypercube.specs.Lists.{allBelow};
 ghost use Rattle.state.specs.States.{freshState};
 ghost use Rattle.state.specs.Valid.{entryRight, mapRight};
-ghost use Rattle.state.specs.Acts.{numberOf};
+ghost use Rattle.hypercube.specs.Replies.{numberOf};
 
 // A cube: its dimension, the map, and the holder and the condition of each of 1024 nodes (document 01, "Node and record").
 pub struct State {
@@ -27,21 +28,6 @@ pub enum Call {
     Request { job: u16, k: u8, strategy: u8 },
     Release(u16),
     Grow { job: u16, k: u8, strategy: u8 },
-}
-
-// What a call is told.
-pub enum Reply {
-    Granted {
-        job: u16,
-        low: Node,
-        stars: u16,
-        tried: u16,
-    },
-    Refused {
-        number: u16,
-        tried: u16,
-    },
-    Done(u16),
 }
 
 // The state after a call, and its reply.

@@ -1,12 +1,13 @@
 -- What every call keeps of a state: the arrays' lengths and n; and a refusal leaves it as it came. Assumes nothing.
-use Prim.Native.Nat.{ℕ, _^_, _≤_}
+use Prim.Native.Nat.{ℕ, _≤_}
 use mathlib.Core.Logic.{_≢_}
 use mathlib.Core.Path.{_≡_, refl, _∙_}
 use mathlib.Core.Bool.{cond}
-use mathlib.Core.List.{List}
+use mathlib.Core.List.{List, [], _∷_}
 use borrow.Author.Tests.{eqb-false}
-use lib.Dec.{eqb, ltb, leb}
+use lib.Dec.{eqb}
 use lib.ListN.{length, getD, length-set, length-map}
+use Rattle.hypercube.specs.Replies.{numberOf}
 use Rattle.hypercube.specs.Bits.{width}
 use Rattle.hypercube.specs.Lists.{among}
 use Rattle.hypercube.specs.Labels.{node}
@@ -14,19 +15,19 @@ use Rattle.hypercube.specs.Subcubes.{vertices}
 use Rattle.hypercube.specs.declared.Walk.{Walk}
 use Rattle.hypercube.specs.declared.Walk.the-variants.{Found, NoneFree}
 use Rattle.hypercube.proofs.Lists.{length-of}
-use Rattle.hypercube.proofs.Tests.{cases}
+use Rattle.hypercube.specs.Tests.{cases}
+use Rattle.hypercube.specs.Checks.{Check}
 use Rattle.hypercube.proofs.Relabels.{relabel-permutes}
 use Rattle.labels.specs.Relabelling.{notGood}
 use Rattle.state.specs.declared.State.{State}
 use Rattle.state.specs.declared.Call.{Call}
-use Rattle.state.specs.declared.Call.the-variants.{Good, Fault, Repaired, Relabel, Request, Release, Grow}
-use Rattle.state.specs.declared.Reply.{Reply}
+use Rattle.hypercube.specs.declared.Reply.{Reply}
 use Rattle.state.specs.declared.Step.{Step}
 use Rattle.state.specs.States.{withCondition, withHolders, cleared}
-use Rattle.state.specs.Acts.{numberOf, step, nodeCount, holds, anyHeld, acted}
-use Rattle.state.specs.Acts.{allowed, reportStep, relabelStep, walkOf, grantStep, fieldCause, byFields, requestStep, heldBy, growStep, releaseStep}
+use Rattle.state.specs.Effects.{step, Effect, Sets, Relabels, Grants, Releases, walkOf, grantStep, effected}
+use Rattle.state.specs.Acts.{checksOf, effectOf, guarded, acted}
+use Rattle.state.proofs.Valid.{Sized}
 use Rattle.record.specs.Layout.{encode}
-use Rattle.record.proofs.Round.{Sized}
 use Rattle.steps.specs.Carried.{stored}
 
 pub record Kept (s : State) (t : Step) : Type 0 where
@@ -53,64 +54,36 @@ module _ (s : State) (z : Sized s) where
     left = λ p. absurd (p e);
   }
 
-  kept-report : (x v : ℕ) → Kept s (reportStep s x v)
-  unfolding reportStep
-  kept-report x v =
-      cases (ltb x (nodeCount s))
-      (λ l. rw l (cases (allowed v (getD (s .conditions) x 0)) (λ d. rw d (kept-condition x v _ refl)) (λ d. rw d (kept-all _))))
-      (λ l. rw l (kept-all _))
-
-  kept-relabel : s .n ≤ width → Kept s (relabelStep s)
-  unfolding relabelStep
-  kept-relabel small =
-      cases (anyHeld s) (λ l. rw l (kept-all _))
-      (λ l. rw l (record {
-        sized = record {
-          directions = relabel-permutes (s .n) small (notGood (s .conditions)) .entries;
-          holders = z .holders;
-          conditions = z .conditions;
-        };
-        same-n = refl;
-        left = λ p. absurd (p refl);
-      }))
-
   kept-grant : (j : ℕ) (w : Walk) → Kept s (grantStep s j w)
   kept-grant j (Found c t) =
       let xs = vertices width (node (s .map) (c .stars)) (node (s .map) (c .low .0)) in
       kept-holders _ (length-of (λ x. cond (among x xs) j (getD (cleared (s .holders) j) x 0)) 0 1024) _ refl
   kept-grant j (NoneFree t) = kept-all _
 
-  -- a request or a growth that is refused by its fields, or does what keeps it
-  kept-fields : (j k f : ℕ) {t : Step} → Kept s t → Kept s (byFields s j k f t)
-  kept-fields j k f h = cases (eqb (fieldCause s j k f) 0) (λ e. rw e h) (λ e. rw e (kept-all _))
+  -- what a call does that no check stops
+  kept-effect : s .n ≤ width → (e : Effect) → Kept s (effected s e)
+  kept-effect small (Sets x v) = kept-condition x v _ refl
+  kept-effect small Relabels = record {
+    sized = record {
+      directions = relabel-permutes (s .n) small (notGood (s .conditions)) .entries;
+      holders = z .holders;
+      conditions = z .conditions;
+    };
+    same-n = refl;
+    left = λ p. absurd (p refl);
+  }
+  kept-effect small (Grants j k f) = kept-grant j (walkOf s j k f)
+  kept-effect small (Releases j) =
+      kept-holders (cleared (s .holders) j) (length-map (s .holders) (λ (h : ℕ). cond (eqb h j) 0 h) ∙ z .holders) _ refl
 
-  kept-request : (j k f : ℕ) → Kept s (requestStep s j k f)
-  unfolding requestStep
-  kept-request j k f = kept-fields j k f (cases (holds s j) (λ h. rw h (kept-all _)) (λ h. rw h (kept-grant j (walkOf s j k f))))
-
-  kept-grow : (j k f : ℕ) → Kept s (growStep s j k f)
-  unfolding growStep
-  kept-grow j k f =
-      kept-fields j k f (cases (holds s j)
-      (λ h. rw h (cases (leb (2 ^ k) (heldBy s j)) (λ q. rw q (kept-all _)) (λ q. rw q (kept-grant j (walkOf s j k f)))))
-      (λ h. rw h (kept-all _)))
-
-  kept-release : (j : ℕ) → Kept s (releaseStep s j)
-  unfolding releaseStep
-  kept-release j =
-      cases (eqb j 0) (λ l. rw l (kept-all _))
-      (λ l. rw l (cases (holds s j)
-      (λ d. rw d (kept-holders (cleared (s .holders) j) (length-map (s .holders) (λ (h : ℕ). cond (eqb h j) 0 h) ∙ z .holders) _ refl))
-      (λ d. rw d (kept-all _))))
+  -- a check that stops it keeps all
+  kept-guarded : (ks : List Check) {t : Step} → Kept s t → Kept s (guarded s ks t)
+  unfolding guarded
+  kept-guarded [] K = K
+  kept-guarded (k ∷ ks) K = cases (k .met) (λ e. rw e (kept-all _)) (λ e. rw e (kept-guarded ks K))
 
   pub kept : s .n ≤ width → (c : Call) → Kept s (acted s c)
-  kept small (Good x) = kept-report (x .0) 1
-  kept small (Fault x) = kept-report (x .0) 2
-  kept small (Repaired x) = kept-report (x .0) 0
-  kept small Relabel = kept-relabel small
-  kept small (Request j k f) = kept-request j k f
-  kept small (Release j) = kept-release j
-  kept small (Grow j k f) = kept-grow j k f
+  kept small c = kept-guarded (checksOf s c) (kept-effect small (effectOf c))
 
   -- whatever it is told, the record of the state after it
   pub stored-kept : (t : Step) → Kept s t → stored (encode s) t ≡ encode (t .state)

@@ -6,14 +6,18 @@ use mathlib.Core.Bool.{true}
 use mathlib.Core.List.{List}
 use borrow.Author.Tests.{eq-eqb, ne-eqb}
 use lib.ListN.{length}
+use Rattle.hypercube.specs.Replies.{numberOf}
+use Rattle.hypercube.specs.Checks.{Check, StopsAt, numberAt}
 use Rattle.state.specs.declared.State.{State}
 use Rattle.state.specs.declared.Call.{Call}
-use Rattle.state.specs.declared.Reply.{Reply}
-use Rattle.state.specs.declared.Reply.the-variants.{Refused}
+use Rattle.hypercube.specs.declared.Reply.{Reply}
+use Rattle.hypercube.specs.declared.Reply.the-variants.{Refused}
 use Rattle.state.specs.declared.Step.{Step}
 use Rattle.state.specs.Valid.{Valid}
-use Rattle.state.specs.Acts.{numberOf, step, refuse}
+use Rattle.state.specs.Effects.{step}
+use Rattle.state.specs.Acts.{refuse, guarded}
 use Rattle.state.proofs.Valid.{means-valid}
+use Rattle.state.proofs.Steps.{stopped}
 use Rattle.record.specs.Layout.{recordSize, encode, decode, headRight, validRecord}
 use Rattle.record.proofs.Round.{sized-decode, record-says}
 use Rattle.steps.specs.Carried.{Does, Carried}
@@ -38,6 +42,11 @@ told-only r s told p {t} e = record {
 
 pub refuses : (r : List ℕ) (m : ℕ) → m ≢ 0 → {t : Step} → refuse (decode r) m ≡ t → {told : Reply} → told ≡ Refused m 0 → Does r t told r
 refuses r m p {t} e a = rw a (told-only r (decode r) (Refused m 0) p e)
+
+-- by the check at place i, the first that is met
+pub refuses-at : (r : List ℕ) (ks : List Check) (t : Step) (i : ℕ) → numberAt ks i ≢ 0 → StopsAt ks i
+    → {told : Reply} → told ≡ Refused (numberAt ks i) 0 → Does r (guarded (decode r) ks t) told r
+refuses-at r ks t i p e a = refuses r (numberAt ks i) p (stopped (decode r) ks t i e) a
 
 pub by-step : (r : List ℕ) {t u : Step} → t ≡ u → {told : Reply} {r′ : List ℕ} → Does r t told r′ → Does r u told r′
 by-step r e h = rw (← e) h

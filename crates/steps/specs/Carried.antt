@@ -5,9 +5,10 @@ use mathlib.Core.Path.{_≡_}
 use mathlib.Core.List.{List}
 use lib.Dec.{eqb}
 use Rattle.state.specs.declared.Call.{Call}
-use Rattle.state.specs.declared.Reply.{Reply}
+use Rattle.hypercube.specs.declared.Reply.{Reply}
 use Rattle.state.specs.declared.Step.{Step}
-use Rattle.state.specs.Acts.{numberOf, acted}
+use Rattle.hypercube.specs.Replies.{numberOf}
+use Rattle.state.specs.Acts.{acted}
 use Rattle.record.specs.Layout.{encode, decode}
 
 -- the record r after the step t

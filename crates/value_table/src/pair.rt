@@ -3,8 +3,8 @@
 use super::print;
 use super::sums;
 use hypercube::Node;
+use hypercube::Reply;
 use state::Call;
-use state::Reply;
 use state::State;
 use state::Step;
 

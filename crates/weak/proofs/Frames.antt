@@ -1,23 +1,28 @@
 -- The few calls by which the worthless programs are refuted, and what the history says of them. Assumes nothing.
 use mathlib.Core.Path.{_≡_, refl}
 use mathlib.Core.List.{List, [], _∷_}
-use mathlib.Core.Logic.{inl, Dec·and, Dec·not}
-use Prim.Native.Nat.{ℕ}
-use native.Mathlib.Decide.{ℕ-discrete, decLe, decLt}
+use mathlib.Core.Logic.{inl}
+use Prim.Native.Nat.{ℕ, _+_, _*_}
+use native.Mathlib.Omega.{arith}
 use lib.ListN.{getD}
-use Rattle.hypercube.specs.Lists.{In, over, some-of, among, countBelow}
-use Rattle.hypercube.specs.Labels.{label, node, size, assign}
+use Rattle.hypercube.specs.Lists.{In, over, some-of, among, countBelow, anyBelow}
+use Rattle.hypercube.specs.Labels.{node, size, assign}
 use Rattle.hypercube.specs.Subcubes.{vertices, freeAt}
 use Rattle.hypercube.specs.Families.{firstFree}
-use Rattle.hypercube.proofs.Decisions.{dec-or, dec-in, dec-some, dec-every}
-use Rattle.history.specs.Calls.{Log, asking, word, kindOf, lengthField, kind, nodeField, job, dimension, strategy}
+use Rattle.hypercube.specs.Conditions.{allOf}
+use Rattle.hypercube.specs.Checks.{firstMet}
+use Rattle.hypercube.specs.Words.{word}
+use Rattle.hypercube.specs.declared.Reply.the-variants.{Refused, Done}
+use Rattle.hypercube.specs.Replies.{granted}
+use Rattle.history.specs.Calls.{Log, asking, kindOf, lengthField, kind, nodeField, job, dimension, strategy}
 use Rattle.history.specs.Account.{fresh}
 use Rattle.history.specs.Causes.{causes}
-use Rattle.history.specs.Verdicts.{granted, refused, done, firstMet, decided, cause, accept, tell, step, verdict, verdicts}
+use Rattle.history.specs.Verdicts.{cause, accept, tell, step, verdict, verdicts}
 use Rattle.history.specs.Held.{Held, without, held}
 use Rattle.state.specs.declared.Call.the-variants.{Good, Relabel, Request, Grow}
+use Rattle.state.specs.Acts.{callOf}
 use Rattle.frames.specs.declared.Parsed.the-variants.{Known}
-use Rattle.frames.specs.Parse.{callOf, sized, parsed}
+use Rattle.frames.specs.Parse.{sized, parsed}
 use Rattle.cube.specs.Run.{Exchange, Exchanges, begin, _next_, fed, feed, historyAt}
 
 -- a frame with twelve zeros to reply in
@@ -57,25 +62,13 @@ outside = begin next good 2 next asks 1 next good 0 next good 1
 abbrev pub shared : Exchanges
 shared = two next asks 1 next asks 2
 
-pub parsed-0 : parsed (good 0 .frame) ≡ Known (Good (record { 0 = 0 }))
+pub parsed-good : (x : ℕ) → parsed (good x .frame) ≡ Known (Good (record { 0 = x }))
 unfolding parsed callOf sized word kindOf
-parsed-0 = refl
+parsed-good x = let e : x + 256 * 0 ≡ x = omega arith in rw e
 
-pub parsed-1 : parsed (good 1 .frame) ≡ Known (Good (record { 0 = 1 }))
+pub parsed-asks : (j : ℕ) → parsed (asks j .frame) ≡ Known (Request j 0 0)
 unfolding parsed callOf sized word kindOf
-parsed-1 = refl
-
-pub parsed-2 : parsed (good 2 .frame) ≡ Known (Good (record { 0 = 2 }))
-unfolding parsed callOf sized word kindOf
-parsed-2 = refl
-
-pub parsed-job-1 : parsed (asks 1 .frame) ≡ Known (Request 1 0 0)
-unfolding parsed callOf sized word kindOf
-parsed-job-1 = refl
-
-pub parsed-job-2 : parsed (asks 2 .frame) ≡ Known (Request 2 0 0)
-unfolding parsed callOf sized word kindOf
-parsed-job-2 = refl
+parsed-asks j = let e : j + 256 * 0 ≡ j = omega arith in rw e
 
 pub parsed-relabel : parsed (relabels .frame) ≡ Known Relabel
 unfolding parsed callOf sized word kindOf
@@ -97,7 +90,7 @@ requests = inl refl
 -- a direction, and where one of them is good none do; by two silent nodes across direction 2 direction 1 moves to 2; a job that grows loses its
 -- node outside the member; two jobs hold a node each
 pub record Told : Type 0 where
-  pub silent : verdict 0 (historyAt 0 begin) (fed (asks 1)) ≡ refused 14 1
+  pub silent : verdict 0 (historyAt 0 begin) (fed (asks 1)) ≡ Refused 14 1
   pub one-granted : verdict 0 (historyAt 0 one) (fed (asks 1)) ≡ granted 1 0 0 1
   pub one-held : historyAt 0 (one next asks 1) .holder 0 ≡ 1
   pub one-free : historyAt 0 one .holder 0 ≡ 0
@@ -105,8 +98,8 @@ pub record Told : Type 0 where
   pub first-held : (historyAt 1 (two next asks 1) .holder 0 ≡ 1) × (historyAt 1 (two next asks 1) .holder 1 ≡ 0)
   pub second-granted : verdict 1 (historyAt 1 (two next asks 1)) (fed (asks 2)) ≡ granted 2 1 0 2
   pub second-held : historyAt 1 (two next asks 1 next asks 2) .holder 1 ≡ 2
-  pub both-silent : verdict 1 (historyAt 1 begin) (fed relabels) ≡ done 1
-  pub second-silent : verdict 1 (historyAt 1 one) (fed relabels) ≡ done 0
+  pub both-silent : verdict 1 (historyAt 1 begin) (fed relabels) ≡ Done 1
+  pub second-silent : verdict 1 (historyAt 1 one) (fed relabels) ≡ Done 0
   pub first-good : (historyAt 1 one .condition 0 ≡ 1) × (historyAt 1 one .condition 1 ≡ 0)
   pub first-unheld : (x : ℕ) → historyAt 1 one .holder x ≡ 0
   pub across-good : (historyAt 2 across .condition 0 ≡ 1) × (historyAt 2 across .condition 1 ≡ 0) × (historyAt 2 across .condition 2 ≡ 1)
@@ -121,7 +114,8 @@ pub record Told : Type 0 where
   pub shared-held : held (verdicts 1 fresh) [] (feed shared) ≡ alone 2 1 (feed (two next asks 1)) ∷ alone 1 0 (feed two) ∷ []
 
 pub told : Told
-unfolding over some-of label node size assign vertices freeAt firstFree dec-or dec-in dec-some dec-every word kindOf lengthField kind nodeField job dimension strategy among countBelow causes firstMet decided cause accept tell step verdict without Dec·and Dec·not ℕ-discrete decLe decLt
+unfolding over some-of node size assign vertices freeAt firstFree anyBelow allOf word kindOf
+    lengthField kind nodeField job dimension strategy among countBelow causes firstMet cause accept tell step verdict without
 told = record {
   silent = refl;
   one-granted = refl;

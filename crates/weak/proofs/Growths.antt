@@ -10,36 +10,37 @@ use Rattle.hypercube.specs.Lists.{over, among, anyBelow, countBelow}
 use Rattle.hypercube.specs.Labels.{Permutes}
 use Rattle.hypercube.specs.Subcubes.{vertices, freeAt}
 use Rattle.hypercube.specs.Families.{firstFree}
+use Rattle.hypercube.specs.Words.{word, words}
+use Rattle.hypercube.specs.declared.Reply.{Reply}
+use Rattle.hypercube.specs.declared.Reply.the-variants.{Granted, Refused, Done}
+use Rattle.hypercube.specs.Replies.{granted, numberOf, frameOf, written, replies, heard}
 use Rattle.hypercube.proofs.Lists.{length-of}
 use Rattle.labels.specs.Flags.{numbered}
 use Rattle.labels.proofs.Directions.{Own, directions, node-own}
-use Rattle.history.specs.Calls.{word}
 use Rattle.history.specs.Account.{fresh}
-use Rattle.history.specs.Verdicts.{granted, verdicts}
+use Rattle.history.specs.Verdicts.{verdicts}
 use Rattle.history.specs.Held.{without, heldAfter, held}
 use Rattle.state.specs.declared.State.{State}
 use Rattle.state.specs.declared.Call.{Call}
 use Rattle.state.specs.declared.Call.the-variants.{Good, Request, Grow}
-use Rattle.state.specs.declared.Reply.{Reply}
-use Rattle.state.specs.declared.Reply.the-variants.{Granted, Refused, Done}
-use Rattle.state.specs.Acts.{numberOf, growStep, fieldCause, acted}
+use Rattle.state.specs.Acts.{guarded, acted}
 use Rattle.state.specs.Valid.{Valid}
-use Rattle.record.specs.Layout.{holdersAt, recordSize, words, decode}
-use Rattle.record.proofs.Round.{Sized, decode-holder, decode-condition, encode-holder, sized-decode}
+use Rattle.state.proofs.Valid.{Sized}
+use Rattle.record.specs.Layout.{holdersAt, recordSize, decode}
+use Rattle.record.proofs.Round.{decode-holder, decode-condition, encode-holder, sized-decode}
 use Rattle.steps.proofs.Ways.{state-valid}
 use Rattle.frames.specs.declared.Parsed.the-variants.{Known}
 use Rattle.frames.specs.Parse.{parsed}
-use Rattle.frames.specs.Answer.{frameOf, written}
 use Rattle.cube.specs.Called.{setupRecord, delivered}
-use Rattle.cube.specs.Run.{Exchange, Exchanges, begin, _next_, fed, feed, returns, replies, heard, recordAfter, heldAt}
+use Rattle.cube.specs.Run.{Exchange, Exchanges, begin, _next_, fed, feed, recordAfter, heldAt}
 use Rattle.cube.specs.Demand3.{Demand3}
 use Rattle.cube.proofs.Heard.{heard-back}
 use Rattle.cube.proofs.Theorem.{heard-is, demand3}
-use Rattle.weak.specs.Programs.{numberBy, recordBy, replyBy, by}
+use Rattle.weak.specs.Programs.{numberBy, recordBy, replyBy, by, Asks, growStep}
 use Rattle.weak.specs.Parts.{HeldDisjoint, HoldersRight}
-use Rattle.weak.specs.Growths.{Grows, growing, keeping, oldKept, othersFree, GrowthsRefuted}
+use Rattle.weak.specs.Growths.{growing, keeping, oldKept, othersFree, GrowthsRefuted}
 use Rattle.weak.proofs.Parts.{disjoint, holders, breaks}
-use Rattle.weak.proofs.Frames.{grows, outside, shared, parsed-0, parsed-1, parsed-2, parsed-job-1, parsed-job-2, parsed-grow, told}
+use Rattle.weak.proofs.Frames.{grows, outside, shared, parsed-good, parsed-asks, parsed-grow, told}
 use Rattle.weak.proofs.Holding.{dimension-of}
 use Rattle.weak.proofs.Made.{same-call, same-returned, same-reply, number-is, reply-is, record-is, delivered-number, delivered-reply}
 
@@ -69,7 +70,7 @@ own-two ds P (suc i) l = P .own (suc i) (omega arith) l
 -- others' nodes free: job 1 has node 0 and job 2 node 1, and job 1 is granted both
 both-granted : (s : State) → Valid s → s .n ≡ 1 → getD (s .conditions) 0 0 ≡ 1 → getD (s .conditions) 1 0 ≡ 1 → getD (s .holders) 0 0 ≡ 1
     → getD (s .holders) 1 0 ≡ 2 → othersFree s 1 1 0 .reply ≡ Granted 1 (numbered 0) 1 1
-unfolding fieldCause over anyBelow countBelow freeAt firstFree
+unfolding guarded over anyBelow countBelow freeAt firstFree
 both-granted s v n c0 c1 h0 h1 =
     let P = rw n at (v .permutes) in
     let D = directions 1 (s .map) (omega arith) P in
@@ -81,28 +82,28 @@ both-granted s v n c0 c1 h0 h1 =
 -- ---- a list of calls without a growth
 
 -- a call that does what it does by the delivered program, and a list of them
-abbrev Same : Grows → Exchange → Type 0
+abbrev Same : Asks → Exchange → Type 0
 Same g x = (c : Call) × (parsed (x .frame) ≡ Known c) × ((s : State) → growing g s c ≡ acted s c)
 
-abbrev AllSame : Grows → Exchanges → Type 0
+abbrev AllSame : Asks → Exchanges → Type 0
 AllSame g begin = Unit {0}
 AllSame g (es next x) = AllSame g es × Same g x
 
-outside-same : (g : Grows) → AllSame g outside
+outside-same : (g : Asks) → AllSame g outside
 outside-same g = (
-  (((tt, (Good (numbered 2), parsed-2, λ s. refl)), (Request 1 0 0, parsed-job-1, λ s. refl)), (Good (numbered 0), parsed-0, λ s. refl)),
-  (Good (numbered 1), parsed-1, λ s. refl),
+  (((tt, (Good (numbered 2), parsed-good 2, λ s. refl)), (Request 1 0 0, parsed-asks 1, λ s. refl)), (Good (numbered 0), parsed-good 0, λ s. refl)),
+  (Good (numbered 1), parsed-good 1, λ s. refl),
 )
 
-shared-same : (g : Grows) → AllSame g shared
+shared-same : (g : Asks) → AllSame g shared
 shared-same g = (
-  (((tt, (Good (numbered 0), parsed-0, λ s. refl)), (Good (numbered 1), parsed-1, λ s. refl)), (Request 1 0 0, parsed-job-1, λ s. refl)),
-  (Request 2 0 0, parsed-job-2, λ s. refl),
+  (((tt, (Good (numbered 0), parsed-good 0, λ s. refl)), (Good (numbered 1), parsed-good 1, λ s. refl)), (Request 1 0 0, parsed-asks 1, λ s. refl)),
+  (Request 2 0 0, parsed-asks 2, λ s. refl),
 )
 
 module _ (b : List ℕ) (whole : length b ≡ recordSize) where
   -- the record is the delivered program's
-  same : (g : Grows) (n : ℕ) (es : Exchanges) → AllSame g es
+  same : (g : Asks) (n : ℕ) (es : Exchanges) → AllSame g es
       → recordAfter (by (growing g)) (setupRecord b n) es ≡ recordAfter delivered (setupRecord b n) es
   same g n begin u = refl
   same g n (es next x) u =
@@ -110,7 +111,7 @@ module _ (b : List ℕ) (whole : length b ≡ recordSize) where
       ∙ ap (λ (r : List ℕ). delivered .call-record r (x .frame) (x .buffer)) (same g n es (u .0))
 
   -- each call is heard what the history says, so the subcubes held are the history's
-  same-held : (g : Grows) (n : ℕ) → n ≤ 10 → (es : Exchanges) → AllSame g es
+  same-held : (g : Asks) (n : ℕ) → n ≤ 10 → (es : Exchanges) → AllSame g es
       → heldAt (by (growing g)) (setupRecord b n) [] es ≡ held (verdicts n fresh) [] (feed es)
   same-held g n small begin u = refl
   same-held g n small (es next x) u =
@@ -134,7 +135,7 @@ module _ (b : List ℕ) (whole : length b ≡ recordSize) where
   accepted : numberOf answer ≡ 0
   accepted =
       sym (delivered-number (growing oldKept) r grows (Grow 1 1 0) parsed-grow (four-nodes .list .recorded outside .valid) refl)
-      ∙ four-nodes .list .calls outside grows .returned ∙ ap returns (told .outside-granted)
+      ∙ four-nodes .list .calls outside grows .returned ∙ ap numberOf (told .outside-granted)
 
   answered : written (frameOf answer) (grows .buffer) ≡ replies (granted 1 0 1 1) (grows .buffer)
   answered =
@@ -171,7 +172,6 @@ module _ (b : List ℕ) (whole : length b ≡ recordSize) where
 
   tells-both : heard (numberBy (growing othersFree) t (grows .frame) (grows .buffer)) (replyBy (growing othersFree) t (grows .frame) (grows .buffer))
       ≡ granted 1 0 1 1
-  unfolding frameOf
   tells-both =
       let v = demand3 1 (omega arith) b whole .list .recorded shared .valid in
       ap₂ heard

@@ -1,14 +1,14 @@
 -- The dimension in a record, and whether a node of a state is held. Assumes nothing.
-use Prim.Native.Nat.{ℕ, _^_, _<_}
+use Prim.Native.Nat.{ℕ, _<_}
 use mathlib.Core.Path.{_≡_, refl}
 use mathlib.Core.Bool.{true, false, not, false≢true}
 use mathlib.Core.List.{List}
 use lib.Dec.{eqb}
 use lib.ListN.{getD}
-use Rattle.hypercube.proofs.Tests.{refutes}
+use Rattle.hypercube.specs.Tests.{refutes}
 use Rattle.hypercube.proofs.Below.{means-any}
 use Rattle.state.specs.declared.State.{State}
-use Rattle.state.specs.Acts.{nodeCount, anyHeld}
+use Rattle.state.specs.Checks.{nodeCount, anyHeld}
 use Rattle.record.specs.Layout.{decode}
 
 pub dimension-of : (r : List ℕ) → decode r .n ≡ getD r 4 0

@@ -6,12 +6,12 @@ use mathlib.Core.List.{List}
 use borrow.Author.Tests.{eq-eqb}
 use lib.Dec.{ltb}
 use lib.ListN.{length}
+use Rattle.hypercube.specs.Replies.{numberOf, frameOf, written}
 use Rattle.state.specs.declared.Call.{Call}
-use Rattle.state.specs.Acts.{numberOf, acted}
+use Rattle.state.specs.Acts.{acted}
 use Rattle.record.specs.Layout.{encode, decode, validRecord}
 use Rattle.frames.specs.declared.Parsed.the-variants.{Known}
 use Rattle.frames.specs.Parse.{parsed}
-use Rattle.frames.specs.Answer.{frameOf, written}
 use Rattle.cube.specs.Run.{Exchange}
 use Rattle.cube.specs.Called.{stepOn, callNumber, callRecord, callReply}
 use Rattle.weak.specs.Programs.{Acts, numberBy, recordBy, replyBy}

@@ -2,47 +2,45 @@
 use Prim.Native.Nat.{ℕ, _+_, _*_, _^_, _<_, _≤_}
 use mathlib.Core.Path.{_≡_, refl, sym, ap, ap₂, _∙_}
 use mathlib.Core.Logic.{inl}
-use mathlib.Core.Bool.{true, false, not, cond, _||_}
+use mathlib.Core.Bool.{true, false, cond}
 use mathlib.Core.List.{List, [], _∷_, _++_}
 use native.Mathlib.Omega.{arith}
 use native.Mathlib.Nat.{lt-of-lt-of-le}
 use borrow.Author.Tests.{ne-eqb}
-use lib.Dec.{eqb}
 use lib.ListN.{length, getD}
 use lib.Pow.{pow-pos}
 use Rattle.hypercube.specs.Bits.{width}
 use Rattle.hypercube.specs.Lists.{over, among}
 use Rattle.hypercube.specs.Subcubes.{vertices}
+use Rattle.hypercube.specs.Words.{word, words}
+use Rattle.hypercube.specs.declared.Reply.{Reply}
+use Rattle.hypercube.specs.declared.Reply.the-variants.{Granted, Refused, Done}
+use Rattle.hypercube.specs.Replies.{granted, frameOf, written, numberOf, replies, heard}
 use Rattle.hypercube.proofs.Lists.{length-of, getD-each}
-use Rattle.history.specs.Calls.{Call, word, strategy, dimension}
+use Rattle.history.specs.Calls.{Call, strategy, dimension}
 use Rattle.history.specs.Account.{History}
 use Rattle.history.specs.Causes.{Row, NoneMet, earlier, last, causes}
-use Rattle.history.specs.Verdicts.{granted}
 use Rattle.history.specs.Held.{without}
 use Rattle.history.proofs.Passed.{passed}
 use Rattle.state.specs.declared.State.{State}
 use Rattle.state.specs.declared.Call.the-variants.{Good, Request}
-use Rattle.state.specs.declared.Reply.{Reply}
-use Rattle.state.specs.declared.Reply.the-variants.{Granted, Refused, Done}
 use Rattle.state.specs.States.{withHolders, given}
-use Rattle.state.specs.Valid.{anyBelow, Valid}
-use Rattle.state.specs.Acts.{numberOf, anyHeld, requestStep}
-use Rattle.state.proofs.Valid.{means-valid}
-use Rattle.record.specs.Layout.{holdersAt, recordSize, words, encode, decode, validRecord}
-use Rattle.frames.specs.Answer.{frameOf, written}
-use Rattle.record.proofs.Round.{Sized, decode-holder, sized-decode, encode-holder, valid-encode}
-use Rattle.frames.specs.declared.Parsed.the-variants.{Known}
-use Rattle.frames.specs.Parse.{parsed}
+use Rattle.state.specs.Valid.{Valid}
+use Rattle.state.specs.Checks.{anyHeld}
+use Rattle.state.proofs.Valid.{Sized, means-valid}
+use Rattle.record.specs.Layout.{holdersAt, recordSize, encode, decode, validRecord}
+use Rattle.record.proofs.Round.{decode-holder, sized-decode, encode-holder, valid-encode}
 use Rattle.cube.specs.Called.{setupRecord, delivered}
-use Rattle.cube.specs.Run.{Exchanges, begin, _next_, fed, returns, replies, heard, recordAfter, number, reply, historyAt}
+use Rattle.cube.specs.Run.{Exchanges, begin, _next_, fed, recordAfter, number, reply, historyAt}
 use Rattle.cube.specs.Demand3.{Demand3}
 use Rattle.steps.proofs.Ways.{state-valid}
 use Rattle.cube.proofs.Heard.{heard-back}
 use Rattle.cube.proofs.Theorem.{demand3}
-use Rattle.weak.specs.Programs.{Requests, requesting, byRequests, answers14, unstarted, lowest, unrecorded, firstJob, plausible, anyTried}
+use Rattle.weak.specs.Programs.{Asks, requestStep, requesting, byRequests}
+use Rattle.weak.specs.Programs.{answers14, unstarted, lowest, unrecorded, firstJob, plausible, anyTried}
 use Rattle.weak.specs.Parts.{NoneFreeRight, RefusalRight, HeldDisjoint, HoldersRight, ReplyRight, Refuted}
 use Rattle.weak.proofs.Parts.{none-free, refusal, disjoint, holders, replied, breaks}
-use Rattle.weak.proofs.Frames.{good, asks, one, two, parsed-0, parsed-1, parsed-job-1, parsed-job-2, requests, told}
+use Rattle.weak.proofs.Frames.{good, asks, one, two, parsed-good, parsed-asks, requests, told}
 use Rattle.weak.proofs.Holding.{dimension-of, none-held, some-held}
 use Rattle.weak.proofs.Made.{same-call, number-is, reply-is, record-is, delivered-number, delivered-reply, same-record}
 
@@ -102,16 +100,16 @@ module _ (b : List ℕ) (whole : length b ≡ recordSize) where
   two-nodes = demand3 1 (omega arith) b whole
 
   -- the record before the first request is the delivered program's
-  module _ (q : Requests) where
+  module _ (q : Asks) where
     at-one : recordAfter (byRequests q) (setupRecord b 0) one ≡ recordAfter delivered (setupRecord b 0) one
-    at-one = same-call (requesting q) _ (good 0) (Good (record { 0 = 0 })) parsed-0 refl
+    at-one = same-call (requesting q) _ (good 0) (Good (record { 0 = 0 })) (parsed-good 0) refl
 
     at-first : recordAfter (byRequests q) (setupRecord b 1) (begin next good 0) ≡ recordAfter delivered (setupRecord b 1) (begin next good 0)
-    at-first = same-call (requesting q) _ (good 0) (Good (record { 0 = 0 })) parsed-0 refl
+    at-first = same-call (requesting q) _ (good 0) (Good (record { 0 = 0 })) (parsed-good 0) refl
 
     at-two : recordAfter (byRequests q) (setupRecord b 1) two ≡ recordAfter delivered (setupRecord b 1) two
     at-two =
-        same-call (requesting q) _ (good 1) (Good (record { 0 = 1 })) parsed-1 refl
+        same-call (requesting q) _ (good 1) (Good (record { 0 = 1 })) (parsed-good 1) refl
         ∙ ap (λ (r : List ℕ). delivered .call-record r (good 1 .frame) (good 1 .buffer)) at-first
 
     valid-one : validRecord (recordAfter (byRequests q) (setupRecord b 0) one) ≡ true
@@ -123,7 +121,7 @@ module _ (b : List ℕ) (whole : length b ≡ recordSize) where
         (left : q s 1 0 0 .state ≡ requestStep s 1 0 0 .state) where
       at-later : recordAfter (byRequests q) (setupRecord b 1) (two next asks 1) ≡ recordAfter delivered (setupRecord b 1) (two next asks 1)
       at-later =
-          same-record (requesting q) _ (asks 1) (Request 1 0 0) parsed-job-1 (rw at-two (two-nodes .list .recorded two .valid)) refl (rw e a)
+          same-record (requesting q) _ (asks 1) (Request 1 0 0) (parsed-asks 1) (rw at-two (two-nodes .list .recorded two .valid)) refl (rw e a)
           (rw e left)
           ∙ ap (λ (r : List ℕ). delivered .call-record r (asks 1 .frame) (asks 1 .buffer)) at-two
 
@@ -133,13 +131,13 @@ module _ (b : List ℕ) (whole : length b ≡ recordSize) where
   -- ---- a free member exists
 
   none-met : NoneMet (causes 0) (historyAt 0 one) (fed (asks 1))
-  none-met = one-node .list .calls one (asks 1) .accepted-by-none .0 (one-node .list .calls one (asks 1) .returned ∙ ap returns (told .one-granted))
+  none-met = one-node .list .calls one (asks 1) .accepted-by-none .0 (one-node .list .calls one (asks 1) .returned ∙ ap numberOf (told .one-granted))
 
-  says-14 : (q : Requests) → ((s : State) → numberOf (q s 1 0 0 .reply) ≡ 14) → ¬ NoneFreeRight (byRequests q) 0 b
+  says-14 : (q : Asks) → ((s : State) → numberOf (q s 1 0 0 .reply) ≡ 14) → ¬ NoneFreeRight (byRequests q) 0 b
   says-14 q e claim =
       passed 0 (historyAt 0 one) (fed (asks 1)) none-met .some-free requests
       (claim one (asks 1) requests (earlier-none 0 _ _ none-met)
-      (number-is (requesting q) _ (asks 1) (Request 1 0 0) parsed-job-1 (valid-one q) refl ∙ e _))
+      (number-is (requesting q) _ (asks 1) (Request 1 0 0) (parsed-asks 1) (valid-one q) refl ∙ e _))
 
   -- ---- 'tried' of a walk unstarted
 
@@ -147,32 +145,32 @@ module _ (b : List ℕ) (whole : length b ≡ recordSize) where
   unfolding word words frameOf over strategy dimension
   tried-wrong claim =
       let judged = one-node .list .calls begin (asks 1) in
-      let refuses = judged .refused-by-first 14 (λ z. absurd (omega arith)) .0 (judged .returned ∙ ap returns (told .silent)) in
-      let said = reply-is (requesting unstarted) _ (asks 1) (Request 1 0 0) parsed-job-1 (one-node .list .recorded begin .valid) refl in
+      let refuses = judged .refused-by-first 14 (λ z. absurd (omega arith)) .0 (judged .returned ∙ ap numberOf (told .silent)) in
+      let said = reply-is (requesting unstarted) _ (asks 1) (Request 1 0 0) (parsed-asks 1) (one-node .list .recorded begin .valid) refl in
       let same : _≡_ {A = ℕ} 0 1 = ap (λ (p : List ℕ). word p 6) (sym said ∙ claim begin (asks 1) 14 refuses) in
       absurd (omega arith)
 
   -- ---- disjoint
 
   told-lowest : (es : Exchanges) → validRecord (recordAfter (byRequests lowest) (setupRecord b 0) es) ≡ true → (j : ℕ)
-      → parsed (asks j .frame) ≡ Known (Request j 0 0)
       → heard (number (byRequests lowest) (setupRecord b 0) es (asks j)) (reply (byRequests lowest) (setupRecord b 0) es (asks j)) ≡ granted j 0 0 1
-  unfolding frameOf
-  told-lowest es v j e =
-      ap₂ heard (number-is (requesting lowest) _ (asks j) (Request j 0 0) e v refl) (reply-is (requesting lowest) _ (asks j) (Request j 0 0) e v refl)
+  told-lowest es v j =
+      ap₂ heard
+      (number-is (requesting lowest) _ (asks j) (Request j 0 0) (parsed-asks j) v refl)
+      (reply-is (requesting lowest) _ (asks j) (Request j 0 0) (parsed-asks j) v refl)
       ∙ heard-back (granted j 0 0 1) (asks j .buffer) tt
 
   valid-next : validRecord (recordAfter (byRequests lowest) (setupRecord b 0) (one next asks 1)) ≡ true
   valid-next =
       let r = recordAfter (byRequests lowest) (setupRecord b 0) one in
-      rw (record-is (requesting lowest) r (asks 1) (Request 1 0 0) parsed-job-1 (valid-one lowest) refl refl)
+      rw (record-is (requesting lowest) r (asks 1) (Request 1 0 0) (parsed-asks 1) (valid-one lowest) refl refl)
       (stays-valid (decode r) (sized-decode r) (state-valid r (valid-one lowest)) 1)
 
   lowest-wrong : ¬ HeldDisjoint (byRequests lowest) 0 b
   unfolding without vertices
   lowest-wrong claim =
-      let first = told-lowest one (valid-one lowest) 1 parsed-job-1 in
-      let second = told-lowest (one next asks 1) valid-next 2 parsed-job-2 in
+      let first = told-lowest one (valid-one lowest) 1 in
+      let second = told-lowest (one next asks 1) valid-next 2 in
       let d = rw (first, second) at (claim (one next asks 1 next asks 2)) in
       d .0 _ (inl refl) 0 (inl refl) (inl refl)
 
@@ -187,11 +185,11 @@ module _ (b : List ℕ) (whole : length b ≡ recordSize) where
       let r = recordAfter (byRequests unrecorded) (setupRecord b 0) one in
       let v = valid-one unrecorded in
       let accepted : numberOf (requestStep (decode r) 1 0 0 .reply) ≡ 0 =
-      sym (delivered-number (requesting unrecorded) r (asks 1) (Request 1 0 0) parsed-job-1 v refl)
+      sym (delivered-number (requesting unrecorded) r (asks 1) (Request 1 0 0) (parsed-asks 1) v refl)
       ∙ ap (λ (r : List ℕ). delivered .call-number r (asks 1 .frame) (asks 1 .buffer)) (at-one unrecorded)
-      ∙ one-node .list .calls one (asks 1) .returned ∙ ap returns (told .one-granted) in
+      ∙ one-node .list .calls one (asks 1) .returned ∙ ap numberOf (told .one-granted) in
       let left : word (recordAfter (byRequests unrecorded) (setupRecord b 0) (one next asks 1)) 16 ≡ 0 =
-      ap (λ (r : List ℕ). word r 16) (record-is (requesting unrecorded) r (asks 1) (Request 1 0 0) parsed-job-1 v refl accepted)
+      ap (λ (r : List ℕ). word r 16) (record-is (requesting unrecorded) r (asks 1) (Request 1 0 0) (parsed-asks 1) v refl accepted)
       ∙ kept r 0 (omega arith) ∙ ap (λ (r : List ℕ). word r 16) (at-one unrecorded)
       ∙ one-node .list .recorded one .holders 0 (omega arith) ∙ told .one-free in
       let same : _≡_ {A = ℕ} 0 1 = sym left ∙ claim (one next asks 1) 0 (omega arith) ∙ told .one-held in
@@ -219,11 +217,11 @@ module _ (b : List ℕ) (whole : length b ≡ recordSize) where
       (some-held (decode (recordAfter delivered (setupRecord b 1) later)) 0 (pow-pos _)
       (decode-holder _ 0 (omega arith) ∙ after .holders 0 (omega arith) ∙ told .first-held .0)) in
       let accepted : numberOf (firstJob (decode r) 2 0 0 .reply) ≡ 0 =
-      (rw some refl) ∙ sym (delivered-number (requesting firstJob) r (asks 2) (Request 2 0 0) parsed-job-2 v refl)
+      (rw some refl) ∙ sym (delivered-number (requesting firstJob) r (asks 2) (Request 2 0 0) (parsed-asks 2) v refl)
       ∙ ap (λ (r : List ℕ). delivered .call-number r g p) same
-      ∙ two-nodes .list .calls later (asks 2) .returned ∙ ap returns (told .second-granted) in
+      ∙ two-nodes .list .calls later (asks 2) .returned ∙ ap numberOf (told .second-granted) in
       let left : word (recordAfter (byRequests firstJob) (setupRecord b 1) (later next asks 2)) 18 ≡ 0 =
-      ap (λ (r : List ℕ). word r 18) (record-is (requesting firstJob) r (asks 2) (Request 2 0 0) parsed-job-2 v refl accepted)
+      ap (λ (r : List ℕ). word r 18) (record-is (requesting firstJob) r (asks 2) (Request 2 0 0) (parsed-asks 2) v refl accepted)
       ∙ (rw some (kept r 1 (omega arith)))
       ∙ ap (λ (r : List ℕ). word r 18) same ∙ after .holders 1 (omega arith) ∙ told .first-held .1 in
       let wrong : _≡_ {A = ℕ} 0 2 = sym left ∙ claim (later next asks 2) 1 (omega arith) ∙ told .second-held in
@@ -242,10 +240,10 @@ module _ (b : List ℕ) (whole : length b ≡ recordSize) where
       let r = recordAfter (byRequests anyTried) (setupRecord b 1) later in
       let right = ap (λ v. replies v p) (told .second-granted) in
       tried-two (requestStep (decode r) 2 0 0 .reply) p
-      (sym (delivered-reply (requesting anyTried) r (asks 2) (Request 2 0 0) parsed-job-2 v refl)
+      (sym (delivered-reply (requesting anyTried) r (asks 2) (Request 2 0 0) (parsed-asks 2) v refl)
       ∙ ap (λ (r : List ℕ). delivered .call-reply r g p) same
       ∙ two-nodes .list .calls later (asks 2) .replied ∙ right)
-      (sym (reply-is (requesting anyTried) r (asks 2) (Request 2 0 0) parsed-job-2 v refl) ∙ claim later (asks 2) ∙ right)
+      (sym (reply-is (requesting anyTried) r (asks 2) (Request 2 0 0) (parsed-asks 2) v refl) ∙ claim later (asks 2) ∙ right)
 
   pub refuted : Refuted b
   refuted = record {

@@ -3,32 +3,34 @@
 use Prim.Native.Nat.{ℕ, _+_, _^_, _<_, _≤_}
 use mathlib.Core.Path.{_≡_, refl, sym, ap, _∙_}
 use mathlib.Core.Bool.{false}
-use mathlib.Core.List.{List, [], _∷_}
+use mathlib.Core.List.{List}
 use native.Mathlib.Omega.{arith}
 use native.Mathlib.Nat.{lt-of-lt-of-le}
 use lib.ListN.{length, getD}
 use Rattle.hypercube.specs.Lists.{over, some-of}
 use Rattle.hypercube.specs.Labels.{differing, size, assign, relabelled}
+use Rattle.hypercube.specs.Words.{word, words}
+use Rattle.hypercube.specs.declared.Reply.the-variants.{Done}
+use Rattle.hypercube.specs.Replies.{frameOf, replies}
 use Rattle.hypercube.proofs.Relabels.{relabel-permutes}
 use Rattle.labels.specs.Relabelling.{notGood}
 use Rattle.labels.proofs.Flags.{cube-le}
-use Rattle.history.specs.Calls.{word}
-use Rattle.history.specs.Verdicts.{done, verdict}
+use Rattle.history.specs.Verdicts.{verdict}
 use Rattle.state.specs.declared.Call.the-variants.{Good, Relabel}
 use Rattle.state.specs.States.{withMap}
-use Rattle.state.specs.Acts.{anyHeld}
-use Rattle.record.specs.Layout.{recordSize, mapAt, words, encode, decode}
+use Rattle.state.specs.Checks.{anyHeld}
+use Rattle.state.specs.Acts.{guarded}
+use Rattle.record.specs.Layout.{recordSize, mapAt, decode}
 use Rattle.record.proofs.Round.{decode-holder, decode-condition, encode-map, sized-decode}
-use Rattle.frames.specs.Answer.{frameOf}
 use Rattle.cube.specs.Called.{setupRecord, delivered}
-use Rattle.cube.specs.Run.{Exchanges, begin, _next_, fed, replies, recordAfter, historyAt}
+use Rattle.cube.specs.Run.{Exchanges, begin, _next_, fed, recordAfter, historyAt}
 use Rattle.cube.specs.Demand3.{Demand3}
 use Rattle.cube.proofs.Theorem.{demand3}
 use Rattle.weak.specs.Programs.{by}
 use Rattle.weak.specs.Parts.{ReplyRight}
 use Rattle.weak.specs.Relabels.{Over, relabelling, faultyOnly, notFaulty, MapRight, RelabelsRefuted}
 use Rattle.weak.proofs.Parts.{replied, breaks}
-use Rattle.weak.proofs.Frames.{good, one, across, relabels, parsed-0, parsed-2, parsed-relabel, told}
+use Rattle.weak.proofs.Frames.{good, one, across, relabels, parsed-good, parsed-relabel, told}
 use Rattle.weak.proofs.Holding.{dimension-of, none-held}
 use Rattle.weak.proofs.Made.{same-call, reply-is, record-is}
 
@@ -59,17 +61,19 @@ module _ (b : List ℕ) (whole : length b ≡ recordSize) where
     condition x h = decode-condition r x (below x h) ∙ kept .list .recorded es .conditions x h
 
     -- a relabel is told the size of the program's D, which the history's is by the claim
-    sizes : (w : ℕ) → verdict n (historyAt n es) (fed relabels) ≡ done w → ReplyRight (by (relabelling mapped sized)) n b
-        → replies (done (size (differing n (sized (decode r .conditions))))) (relabels .buffer) ≡ replies (done w) (relabels .buffer)
-    unfolding frameOf
+    sizes : (w : ℕ) → verdict n (historyAt n es) (fed relabels) ≡ Done w → ReplyRight (by (relabelling mapped sized)) n b
+        → size (differing n (sized (decode r .conditions))) ≡ w
+    unfolding guarded frameOf words word
     sizes w says claim =
         let answer = reply-is (relabelling mapped sized) r relabels Relabel parsed-relabel (kept .list .recorded es .valid) refl in
-        sym (rw (none, dimension) at answer) ∙ (rw same at (claim es relabels)) ∙ ap (λ v. replies v (relabels .buffer)) says
+        let told = sym (rw (none, dimension) at answer) ∙ (rw same at (claim es relabels)) ∙ ap (λ v. replies v (relabels .buffer)) says in
+        omega (arith, ap (λ (p : List ℕ). word p 4) told)
 
     -- and the record's map is by the program's other D
     moved : (i : ℕ) → i < 10
         → getD (recordAfter (by (relabelling mapped sized)) (setupRecord b n) (es next relabels)) (mapAt + i) 0
         ≡ getD (relabelled n (mapped (decode r .conditions))) i 0
+    unfolding guarded
     moved i h =
         let z = sized-decode r in
         let stored = record-is (relabelling mapped sized) r relabels Relabel parsed-relabel (kept .list .recorded es .valid) refl (rw none refl) in
@@ -80,24 +84,24 @@ module _ (b : List ℕ) (whole : length b ≡ recordSize) where
         ∙ (rw dimension refl)))
 
   faulty-wrong : ¬ ReplyRight (by (relabelling faultyOnly faultyOnly)) 1 b
-  unfolding over some-of size words word
+  unfolding over some-of size
   faulty-wrong claim =
       let small : 1 ≤ 10 = omega arith in
       let c = condition 1 small faultyOnly faultyOnly begin refl (λ x. refl) in
       let answer = sizes 1 small faultyOnly faultyOnly begin refl (λ x. refl) 1 (told .both-silent) claim in
-      let same : _≡_ {A = ℕ} 0 1 = ap (λ (p : List ℕ). word p 4) (rw (c 0 (omega arith), c 1 (omega arith)) at answer) in
+      let same : _≡_ {A = ℕ} 0 1 = rw (c 0 (omega arith), c 1 (omega arith)) at answer in
       absurd (omega arith)
 
   not-faulty-wrong : ¬ ReplyRight (by (relabelling notFaulty notFaulty)) 1 b
-  unfolding over some-of size words word
+  unfolding over some-of size
   not-faulty-wrong claim =
       let small : 1 ≤ 10 = omega arith in
-      let at-one = same-call (relabelling notFaulty notFaulty) _ (good 0) (Good (record { 0 = 0 })) parsed-0 refl in
+      let at-one = same-call (relabelling notFaulty notFaulty) _ (good 0) (Good (record { 0 = 0 })) (parsed-good 0) refl in
       let c = condition 1 small notFaulty notFaulty one at-one (told .first-unheld) in
       let answer = sizes 1 small notFaulty notFaulty one at-one (told .first-unheld) 0 (told .second-silent) claim in
       let first = c 0 (omega arith) ∙ told .first-good .0 in
       let second = c 1 (omega arith) ∙ told .first-good .1 in
-      let same : _≡_ {A = ℕ} 1 0 = ap (λ (p : List ℕ). word p 4) (rw (first, second) at answer) in
+      let same : _≡_ {A = ℕ} 1 0 = rw (first, second) at answer in
       absurd (omega arith)
 
   map-wrong : ¬ MapRight (by (relabelling faultyOnly notGood)) 2 b
@@ -105,8 +109,8 @@ module _ (b : List ℕ) (whole : length b ≡ recordSize) where
   map-wrong claim =
       let small : 2 ≤ 10 = omega arith in
       let acts = relabelling faultyOnly notGood in
-      let at-0 = same-call acts _ (good 0) (Good (record { 0 = 0 })) parsed-0 refl in
-      let at-2 = same-call acts _ (good 2) (Good (record { 0 = 2 })) parsed-2 refl
+      let at-0 = same-call acts _ (good 0) (Good (record { 0 = 0 })) (parsed-good 0) refl in
+      let at-2 = same-call acts _ (good 2) (Good (record { 0 = 2 })) (parsed-good 2) refl
       ∙ ap (λ (r : List ℕ). delivered .call-record r (good 2 .frame) (good 2 .buffer)) at-0 in
       let c = condition 2 small faultyOnly notGood across at-2 (told .across-unheld) in
       let g = told .across-good in

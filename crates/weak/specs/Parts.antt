@@ -3,15 +3,18 @@
 use Prim.Native.Nat.{ℕ, _+_, _*_, _^_, _<_}
 use mathlib.Core.Path.{_≡_}
 use mathlib.Core.List.{List, []}
-use Rattle.history.specs.Calls.{kind, ask, asking, word}
 use Rattle.hypercube.specs.Lists.{In}
+use Rattle.hypercube.specs.Words.{word}
+use Rattle.hypercube.specs.declared.Reply.the-variants.{Refused}
+use Rattle.hypercube.specs.Replies.{replies}
+use Rattle.history.specs.Calls.{kind, ask, asking}
 use Rattle.history.specs.Causes.{First, NoneMet, NoMemberFree, earlier, causes}
-use Rattle.history.specs.Verdicts.{refused, tried, verdict}
+use Rattle.history.specs.Verdicts.{tried, verdict}
 use Rattle.history.specs.Held.{Disjoint}
 use Rattle.record.specs.Layout.{holdersAt}
 use Rattle.cube.specs.Called.{Program}
 use Rattle.cube.specs.Demand3.{Demand3}
-use Rattle.cube.specs.Run.{Exchange, Exchanges, fed, replies, recordAfter, number, reply, heldAt, historyAt}
+use Rattle.cube.specs.Run.{Exchange, Exchanges, fed, recordAfter, number, reply, heldAt, historyAt}
 use Rattle.weak.specs.Programs.{byRequests, answers14, unstarted, lowest, unrecorded, firstJob, anyTried}
 
 module _ (P : Program) (n : ℕ) (b : List ℕ) where
@@ -29,7 +32,7 @@ module _ (P : Program) (n : ℕ) (b : List ℕ) where
   abbrev pub RefusalRight : Type 0
   RefusalRight =
       (es : Exchanges) (e : Exchange) (q : ℕ) → First (causes n) (historyAt n es) (fed e) q
-      → reply P r₀ es e ≡ replies (refused q (tried n (fed e) q)) (e .buffer)
+      → reply P r₀ es e ≡ replies (Refused q (tried n (fed e) q)) (e .buffer)
 
   -- 3: disjoint
   abbrev pub HeldDisjoint : Type 0

@@ -7,19 +7,21 @@ use lib.ListN.{length}
 use Rattle.hypercube.specs.Bits.{width}
 use Rattle.hypercube.specs.Subcubes.{vertices}
 use Rattle.hypercube.specs.Families.{family}
+use Rattle.hypercube.specs.declared.Reply.{Reply}
+use Rattle.hypercube.specs.declared.Reply.the-variants.{Granted, Refused, Done}
+use Rattle.hypercube.specs.Replies.{granted, numberOf, frameOf, written}
 use Rattle.state.specs.declared.State.{State}
 use Rattle.state.specs.declared.Call.{Call}
 use Rattle.state.specs.declared.Call.the-variants.{Good, Fault, Repaired, Relabel, Request, Release, Grow}
-use Rattle.state.specs.declared.Reply.{Reply}
-use Rattle.state.specs.declared.Reply.the-variants.{Granted, Refused, Done}
 use Rattle.state.specs.declared.Step.{Step}
 use Rattle.state.specs.States.{withHolders, given}
-use Rattle.state.specs.Acts.{numberOf, step, refuse, anyHeld, requestStep, acted}
+use Rattle.state.specs.Checks.{anyHeld}
+use Rattle.state.specs.Effects.{step}
+use Rattle.state.specs.Acts.{refuse, acted}
 use Rattle.record.specs.Layout.{encode, decode, validRecord}
 use Rattle.frames.specs.declared.Parsed.{Parsed}
 use Rattle.frames.specs.declared.Parsed.the-variants.{Known, Bad}
 use Rattle.frames.specs.Parse.{parsed}
-use Rattle.frames.specs.Answer.{frameOf, written}
 use Rattle.cube.specs.Called.{Program, setupNumber, setupRecord}
 
 -- what a call does to a state
@@ -43,43 +45,56 @@ replyBy a r f p = cond (validRecord r) (cond (ltb (length p) 12) p (written (fra
 abbrev pub by : Acts → Program
 by a = record { setup-number = setupNumber; setup-record = setupRecord; call-number = numberBy a; call-record = recordBy a; call-reply = replyBy a }
 
--- what a request by job j for dimension k under strategy f does to a state
-abbrev pub Requests : Type 0
-Requests = State → ℕ → ℕ → ℕ → Step
+-- what a request or a growth by job j for dimension k under strategy f does to a state
+abbrev pub Asks : Type 0
+Asks = State → ℕ → ℕ → ℕ → Step
 
--- the program that does this on a request, and is otherwise the delivered one
-abbrev pub requesting : Requests → Acts
-requesting q s (Good x) = acted s (Good x)
-requesting q s (Fault x) = acted s (Fault x)
-requesting q s (Repaired x) = acted s (Repaired x)
-requesting q s Relabel = acted s Relabel
-requesting q s (Request j k f) = q s j k f
-requesting q s (Release j) = acted s (Release j)
-requesting q s (Grow j k f) = acted s (Grow j k f)
+-- the delivered program's
+abbrev pub relabelStep : State → Step
+relabelStep s = acted s Relabel
 
-abbrev pub byRequests : Requests → Program
+abbrev pub requestStep : Asks
+requestStep s j k f = acted s (Request j k f)
+
+abbrev pub growStep : Asks
+growStep s j k f = acted s (Grow j k f)
+
+-- the program that does these on a relabel, a request and a growth, and is otherwise the delivered one
+abbrev pub doing : (State → Step) → Asks → Asks → Acts
+doing l q g s (Good x) = acted s (Good x)
+doing l q g s (Fault x) = acted s (Fault x)
+doing l q g s (Repaired x) = acted s (Repaired x)
+doing l q g s Relabel = l s
+doing l q g s (Request j k f) = q s j k f
+doing l q g s (Release j) = acted s (Release j)
+doing l q g s (Grow j k f) = g s j k f
+
+abbrev pub requesting : Asks → Acts
+requesting q = doing relabelStep q growStep
+
+abbrev pub byRequests : Asks → Program
 byRequests q = by (requesting q)
 
 -- "answers 14 to each request"
-abbrev pub answers14 : Requests
+abbrev pub answers14 : Asks
 answers14 s j k f = step s (Refused 14 (length (family f (s .n) k)))
 
 -- "says 'none free' with the walk unstarted"
-abbrev pub unstarted : Requests
+abbrev pub unstarted : Asks
 unstarted s j k f = step s (Refused 14 0)
 
 -- "grants the lowest subcube to everybody"
-abbrev pub lowest : Requests
+abbrev pub lowest : Asks
 lowest s j k f =
     let stars = 2 ^ k - 1 in
-    step (withHolders s (given (s .holders) (vertices width stars 0) j)) (Granted j (record { 0 = 0 }) stars 1)
+    step (withHolders s (given (s .holders) (vertices width stars 0) j)) (granted j 0 stars 1)
 
 -- "replies 'granted', record unchanged"
-abbrev pub unrecorded : Requests
+abbrev pub unrecorded : Asks
 unrecorded s j k f = step s (requestStep s j k f .reply)
 
 -- "tracks the first job, later ones only in replies"
-abbrev pub firstJob : Requests
+abbrev pub firstJob : Asks
 firstJob s j k f = cond (anyHeld s) (unrecorded s j k f) (requestStep s j k f)
 
 -- "prints a plausible tried"
@@ -88,5 +103,5 @@ plausible (Granted j low stars t) = Granted j low stars 1
 plausible (Refused m t) = Refused m t
 plausible (Done v) = Done v
 
-abbrev pub anyTried : Requests
+abbrev pub anyTried : Asks
 anyTried s j k f = step (requestStep s j k f .state) (plausible (requestStep s j k f .reply))

@@ -1,22 +1,23 @@
 -- Document 02, (b): "Relabelling shall take D over all nodes that aren't good." Three programs that take it over others, and so break demand 3.
 use Prim.Native.Nat.{ℕ, _+_, _<_}
 use mathlib.Core.Path.{_≡_}
-use mathlib.Core.Bool.{Bool, not, cond}
+use mathlib.Core.Bool.{Bool, not}
 use mathlib.Core.List.{List}
 use lib.Dec.{eqb}
 use lib.ListN.{getD}
 use Rattle.hypercube.specs.Labels.{differing, size, relabelled}
+use Rattle.hypercube.specs.declared.Reply.the-variants.{Done}
 use Rattle.labels.specs.Relabelling.{notGood}
 use Rattle.state.specs.declared.State.{State}
-use Rattle.state.specs.declared.Call.the-variants.{Good, Fault, Repaired, Relabel, Request, Release, Grow}
-use Rattle.state.specs.declared.Reply.the-variants.{Done}
+use Rattle.state.specs.declared.Call.the-variants.{Relabel}
 use Rattle.state.specs.declared.Step.{Step}
 use Rattle.state.specs.States.{withMap}
-use Rattle.state.specs.Acts.{step, refuse, anyHeld, acted}
+use Rattle.state.specs.Effects.{step}
+use Rattle.state.specs.Acts.{checksOf, guarded}
 use Rattle.record.specs.Layout.{mapAt}
 use Rattle.cube.specs.Called.{Program}
 use Rattle.cube.specs.Run.{Exchanges, recordAfter, historyAt}
-use Rattle.weak.specs.Programs.{Acts, by}
+use Rattle.weak.specs.Programs.{Acts, by, requestStep, growStep, doing}
 use Rattle.weak.specs.Parts.{ReplyRight, Breaks}
 
 -- a test of the conditions: which nodes D is taken over
@@ -26,18 +27,11 @@ Over = List ℕ → ℕ → Bool
 -- a relabel whose map is by one D, and whose reply by another
 abbrev pub relabelOver : Over → Over → State → Step
 relabelOver mapped sized s =
-    cond (anyHeld s) (refuse s 13)
+    guarded s (checksOf s Relabel)
     (step (withMap s (relabelled (s .n) (mapped (s .conditions)))) (Done (size (differing (s .n) (sized (s .conditions))))))
 
--- the program that relabels so, and is otherwise the delivered one
 abbrev pub relabelling : Over → Over → Acts
-relabelling mapped sized s (Good x) = acted s (Good x)
-relabelling mapped sized s (Fault x) = acted s (Fault x)
-relabelling mapped sized s (Repaired x) = acted s (Repaired x)
-relabelling mapped sized s Relabel = relabelOver mapped sized s
-relabelling mapped sized s (Request j k f) = acted s (Request j k f)
-relabelling mapped sized s (Release j) = acted s (Release j)
-relabelling mapped sized s (Grow j k f) = acted s (Grow j k f)
+relabelling mapped sized = doing (relabelOver mapped sized) requestStep growStep
 
 -- those reported faulty
 abbrev pub faultyOnly : Over

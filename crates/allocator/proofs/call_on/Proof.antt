@@ -2,7 +2,7 @@
 use borrow.Author.Needs.{needs}
 use mathlib.Core.Path.{sym, _∙_}
 use borrow.Author.Tests.{not-true, not-false}
-use Rattle.record.proofs.Round.{Sized}
+use Rattle.state.proofs.Valid.{Sized}
 use Rattle.allocator.proofs.ByRecord.{by-record-1, by-record}
 use Rattle.allocator.proofs.call_on.Statement.{statement}
 use Rattle.allocator.proofs.call_on.Tie as tie

@@ -1,10 +1,10 @@
 -- `calls::relabel_on` meets its contract. Assumes nothing.
 use borrow.Author.Needs.{needs}
-use mathlib.Core.Path.{refl}
+use mathlib.Core.Path.{refl, sym, _∙_}
 use native.Mathlib.Omega.{arith}
-use Rattle.state.proofs.Steps.{relabel-13, relabel-done}
+use Rattle.state.proofs.Steps.{any-held-as, runs, relabelled-as}
 use Rattle.record.specs.Layout.{decode}
-use Rattle.steps.proofs.Ways.{state-valid, whole, refuses, accepts}
+use Rattle.steps.proofs.Ways.{state-valid, whole, refuses-at, accepts}
 use Rattle.calls.proofs.relabel_on.Statement.{statement}
 use Rattle.calls.proofs.relabel_on.Tie as tie
 
@@ -23,9 +23,9 @@ same-length c = search needs
 returns : tie.Need-returns
 returns c =
     let at = c .before .before in
-    refuses _ 13 (λ z. absurd (omega arith))
-    (relabel-13 (decode (at .before .before .before .before .args .rec .now)) _ (at .before .nodes-of .ensures .0)
-    _ (at .any-held .ensures) (c .before .if1 .taken))
+    refuses-at _ _ _ 0 (λ z. absurd (omega arith))
+    (sym (any-held-as (decode (at .before .before .before .before .args .rec .now)) _ (at .before .nodes-of .ensures .0) (at .any-held .ensures))
+    ∙ c .before .if1 .taken)
     (c .refused .ensures)
 
 relabelling-requires : tie.Need-relabelling-requires
@@ -46,8 +46,12 @@ returns-2 c =
     let test = made .before .before in
     let count = test .before .before in
     accepts _ _ _ refl
-    (relabel-done (decode (count .before .before .before .args .rec .now)) _ (count .nodes-of .ensures .0) _ (test .before .any-held .ensures)
-    _ (made .relabelling .ensures) (test .if1 .left))
+    (runs _ _ _ (
+      sym (any-held-as (decode (count .before .before .before .args .rec .now)) _ (count .nodes-of .ensures .0) (test .before .any-held .ensures))
+          ∙ test .if1 .left,
+      tt,
+    )
+    (relabelled-as (decode (count .before .before .before .args .rec .now)) _ (made .relabelling .ensures)))
     (stored .set-map .ensures)
 
 pub relabel-on-spec : {M : Type 1} → statement M

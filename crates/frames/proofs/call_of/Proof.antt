@@ -1,7 +1,7 @@
 -- The call of a frame of its kind's size, by the number of the kind. Assumes nothing.
 use native.Mathlib.Omega.{arith}
 use Rattle.history.specs.Calls.{kindOf}
-use Rattle.frames.specs.Parse.{callOf}
+use Rattle.state.specs.Acts.{callOf}
 use Rattle.frames.proofs.Parsing.{has-field, last-row}
 use Rattle.frames.proofs.call_of.Statement.{statement}
 use Rattle.frames.proofs.call_of.Tie as tie

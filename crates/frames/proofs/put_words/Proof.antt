@@ -4,7 +4,7 @@ use mathlib.Core.Path.{_≡_, refl, _∙_}
 use native.Mathlib.Omega.{arith}
 use lib.ListN.{length, drop, length-set}
 use lib.Seq.{sets}
-use Rattle.record.specs.Layout.{words}
+use Rattle.hypercube.specs.Words.{words}
 use Rattle.frames.proofs.Writing.{stores-next, stores-end, stores-all}
 use Rattle.frames.proofs.put_words.Statement.{statement}
 use Rattle.frames.proofs.put_words.Tie as tie

@@ -2,7 +2,7 @@
 use borrow.Author.Needs.{needs}
 use mathlib.Core.Path.{refl, sym, _∙_}
 use native.Mathlib.Omega.{arith}
-use Rattle.state.specs.declared.Reply.the-variants.{Refused}
+use Rattle.hypercube.specs.declared.Reply.the-variants.{Refused}
 use Rattle.state.proofs.Steps.{grant-14, grant-found}
 use Rattle.steps.proofs.Ways.{state-valid, whole, told-only, accepts}
 use Rattle.grants.proofs.Read.{map-directions}

@@ -1,10 +1,14 @@
 -- `grants::grow_on` meets its contract. Assumes nothing.
-use mathlib.Core.Path.{sym, _∙_}
+use mathlib.Core.Path.{refl, ap}
+use mathlib.Core.Bool.{not}
+use Prim.Native.Nat.{_^_}
 use native.Mathlib.Omega.{arith}
+use borrow.Author.Tests.{le-leb, lt-leb}
 use borrow.Author.Needs.{needs}
-use Rattle.state.proofs.Steps.{counted, holds-none, holds-some, fields-fit, grow-fields, grow-11, grow-17, grow-walk}
+use Rattle.state.specs.Checks.{heldBy}
+use Rattle.state.proofs.Steps.{counted, holds-none, holds-some, fields-refused, fields-fit, fields-then, runs}
 use Rattle.record.specs.Layout.{decode}
-use Rattle.steps.proofs.Ways.{whole, state-valid, refuses, by-step}
+use Rattle.steps.proofs.Ways.{whole, state-valid, refuses, refuses-at, by-step}
 use Rattle.grants.proofs.grow_on.Statement.{statement}
 use Rattle.grants.proofs.grow_on.Tie as tie
 
@@ -19,7 +23,8 @@ same-length c = search needs
 
 returns : tie.Need-returns
 returns c =
-    refuses _ _ (c .before .if1 .taken) (grow-fields _ _ _ _ (c .before .before .field-cause .ensures) (c .before .if1 .taken)) (c .refused .ensures)
+    refuses _ _ (c .before .if1 .taken) (fields-refused _ _ _ _ (c .before .before .field-cause .ensures) _ _ (c .before .if1 .taken))
+    (c .refused .ensures)
 
 nodes-of-requires : tie.Need-nodes-of-requires
 nodes-of-requires c κs = search needs
@@ -39,9 +44,9 @@ returns-2 c =
     let count = at .before in
     let fields = count .before .before .before in
     let a = fields .before .before .before .args in
-    refuses _ 11 (λ z. absurd (omega arith))
-    (grow-11 _ _ _ _ (fields .field-cause .ensures) (count .before .before .if1 .left)
-    (holds-none (decode (a .rec .now)) (a .job) _ _ (count .nodes-of .ensures .0) (at .count-held .ensures) (c .before .if2 .taken)))
+    refuses-at _ _ _ 3 (λ z. absurd (omega arith))
+    (fields-then _ _ _ _ (fields .field-cause .ensures) (count .before .before .if1 .left)
+    (ap not (holds-none (decode (a .rec .now)) (a .job) _ _ (count .nodes-of .ensures .0) (at .count-held .ensures) (c .before .if2 .taken))))
     (c .refused2 .ensures)
 
 pow2-requires : tie.Need-pow2-requires
@@ -49,7 +54,7 @@ pow2-requires c κs =
     let count = c .before .before in
     let fields = count .before .before .before in
     let start = fields .before .before .before in
-    let fit = fields-fit _ _ _ _ (sym (count .before .before .if1 .left) ∙ fields .field-cause .ensures) in
+    let fit = fields-fit _ _ _ _ (fields .field-cause .ensures) (count .before .before .if1 .left) in
     omega (arith, fit .1, state-valid _ (start .pre) .small)
 
 refused-requires-3 : tie.Need-refused-requires-3
@@ -68,10 +73,12 @@ returns-3 c =
     let a = fields .before .before .before .args in
     let e = count .nodes-of .ensures .0 in
     let q = at .count-held .ensures in
-    refuses _ 17 (λ z. absurd (omega arith))
-    (grow-17 _ _ _ _ (fields .field-cause .ensures) (count .before .before .if1 .left)
-    (holds-some (decode (a .rec .now)) (a .job) _ _ e q (some .if2 .left))
-    (counted (decode (a .rec .now)) (a .job) _ _ e q) (omega (arith, power .pow2 .ensures)))
+    refuses-at _ _ _ 4 (λ z. absurd (omega arith))
+    (fields-then _ _ _ _ (fields .field-cause .ensures) (count .before .before .if1 .left) (
+      ap not (holds-some (decode (a .rec .now)) (a .job) _ _ e q (some .if2 .left)),
+      le-leb (2 ^ a .k) (heldBy (decode (a .rec .now)) (a .job))
+          (omega (arith, power .pow2 .ensures, counted (decode (a .rec .now)) (a .job) _ _ e q)),
+    ))
     (c .refused3 .ensures)
 
 grant-on-requires : tie.Need-grant-on-requires
@@ -81,7 +88,7 @@ grant-on-requires c κs =
     let fields = count .before .before .before in
     let start = fields .before .before .before in
     let held = counted (decode (start .args .rec .now)) (start .args .job) _ _ (count .nodes-of .ensures .0) (at .count-held .ensures) in
-    let fit = fields-fit _ _ _ _ (sym (count .before .before .if1 .left) ∙ fields .field-cause .ensures) in
+    let fit = fields-fit _ _ _ _ (fields .field-cause .ensures) (count .before .before .if1 .left) in
     (record { right = start .pre; set = fit .0; counted = held }, fit .1)
 
 same-length-4 : tie.Need-same-length-4
@@ -98,10 +105,13 @@ returns-4 c =
     let a = fields .before .before .before .args in
     let e = count .nodes-of .ensures .0 in
     let q = at .count-held .ensures in
+    let more = lt-leb (2 ^ a .k) (heldBy (decode (a .rec .now)) (a .job))
+    (omega (arith, power .pow2 .ensures, counted (decode (a .rec .now)) (a .job) _ _ e q)) in
     by-step _
-    (grow-walk _ _ _ _ (fields .field-cause .ensures) (count .before .before .if1 .left)
-    (holds-some (decode (a .rec .now)) (a .job) _ _ e q (some .if2 .left))
-    (counted (decode (a .rec .now)) (a .job) _ _ e q) (omega (arith, power .pow2 .ensures)))
+    (runs _ _ _
+    (fields-then _ _ _ _ (fields .field-cause .ensures) (count .before .before .if1 .left)
+    (ap not (holds-some (decode (a .rec .now)) (a .job) _ _ e q (some .if2 .left)), (more, tt)))
+    refl)
     (granted .grant-on .ensures)
 
 pub grow-on-spec : {M : Type 1} → statement M

@@ -1,10 +1,12 @@
 -- `grants::release_on` meets its contract. Assumes nothing.
 use borrow.Author.Needs.{needs}
-use mathlib.Core.Path.{refl}
+use mathlib.Core.Path.{refl, ap}
+use mathlib.Core.Bool.{not}
 use native.Mathlib.Omega.{arith}
-use Rattle.state.proofs.Steps.{counted, holds-none, holds-some, release-6, release-11, release-done}
+use borrow.Author.Tests.{eq-eqb, ne-eqb}
+use Rattle.state.proofs.Steps.{counted, holds-none, holds-some, runs, done-as}
 use Rattle.record.specs.Layout.{decode}
-use Rattle.steps.proofs.Ways.{whole, refuses, accepts}
+use Rattle.steps.proofs.Ways.{whole, refuses-at, accepts}
 use Rattle.grants.proofs.Read.{none-beyond}
 use Rattle.grants.proofs.release_on.Statement.{statement}
 use Rattle.grants.proofs.release_on.Tie as tie
@@ -13,7 +15,7 @@ refused-requires : tie.Need-refused-requires
 refused-requires c κs = search needs
 
 returns : tie.Need-returns
-returns c = refuses _ 6 (λ z. absurd (omega arith)) (release-6 _ _ (c .before .if1 .taken)) (c .refused .ensures)
+returns c = refuses-at _ _ _ 0 (λ z. absurd (omega arith)) (eq-eqb _ 0 (c .before .if1 .taken)) (c .refused .ensures)
 
 nodes-of-requires : tie.Need-nodes-of-requires
 nodes-of-requires c κs = search needs
@@ -33,9 +35,10 @@ returns-2 c =
     let count = at .before .before in
     let test = count .before .before in
     let a = test .before .before .args in
-    refuses _ 11 (λ z. absurd (omega arith))
-    (release-11 _ _ (test .if1 .left)
-    (holds-none (decode (a .rec .now)) (a .job) _ _ (count .nodes-of .ensures .0) (at .count-held .ensures) (c .before .if2 .taken)))
+    refuses-at _ _ _ 1 (λ z. absurd (omega arith)) (
+      ne-eqb _ 0 (test .if1 .left),
+      ap not (holds-none (decode (a .rec .now)) (a .job) _ _ (count .nodes-of .ensures .0) (at .count-held .ensures) (c .before .if2 .taken)),
+    )
     (c .refused2 .ensures)
 
 clear-requires : tie.Need-clear-requires
@@ -58,8 +61,8 @@ returns-3 c =
     let e = count .nodes-of .ensures .0 in
     let q = at .count-held .ensures in
     accepts _ _ _ refl
-    (release-done _ _ (test .if1 .left) (holds-some (decode (a .rec .now)) (a .job) _ _ e q (tested .if2 .left))
-    _ (counted (decode (a .rec .now)) (a .job) _ _ e q))
+    (runs _ _ _ (ne-eqb _ 0 (test .if1 .left), (ap not (holds-some (decode (a .rec .now)) (a .job) _ _ e q (tested .if2 .left)), tt))
+    (done-as _ (counted (decode (a .rec .now)) (a .job) _ _ e q)))
     (stored .clear .ensures)
 
 pub release-on-spec : {M : Type 1} → statement M

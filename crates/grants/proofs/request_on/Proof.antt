@@ -1,10 +1,10 @@
 -- `grants::request_on` meets its contract. Assumes nothing.
 use native.Mathlib.Omega.{arith}
-use mathlib.Core.Path.{sym, _∙_}
+use mathlib.Core.Path.{refl}
 use borrow.Author.Needs.{needs}
-use Rattle.state.proofs.Steps.{counted, holds-none, holds-some, fields-fit, request-fields, request-10, request-walk}
+use Rattle.state.proofs.Steps.{counted, holds-none, holds-some, fields-refused, fields-fit, fields-then, runs}
 use Rattle.record.specs.Layout.{decode}
-use Rattle.steps.proofs.Ways.{whole, refuses, by-step}
+use Rattle.steps.proofs.Ways.{whole, refuses, refuses-at, by-step}
 use Rattle.grants.proofs.request_on.Statement.{statement}
 use Rattle.grants.proofs.request_on.Tie as tie
 
@@ -18,7 +18,7 @@ same-length : tie.Need-same-length
 same-length c = search needs
 
 returns : tie.Need-returns
-returns c = refuses _ _ (c .before .if1 .taken) (request-fields _ _ _ _ (c .before .before .field-cause .ensures) (c .before .if1 .taken))
+returns c = refuses _ _ (c .before .if1 .taken) (fields-refused _ _ _ _ (c .before .before .field-cause .ensures) _ _ (c .before .if1 .taken))
     (c .refused .ensures)
 
 nodes-of-requires : tie.Need-nodes-of-requires
@@ -39,8 +39,8 @@ returns-2 c =
     let count = at .before in
     let fields = count .before .before .before in
     let a = fields .before .before .before .args in
-    refuses _ 10 (λ z. absurd (omega arith))
-    (request-10 _ _ _ _ (fields .field-cause .ensures) (count .before .before .if1 .left)
+    refuses-at _ _ _ 3 (λ z. absurd (omega arith))
+    (fields-then _ _ _ _ (fields .field-cause .ensures) (count .before .before .if1 .left)
     (holds-some (decode (a .rec .now)) (a .job) _ _ (count .nodes-of .ensures .0) (at .count-held .ensures) (c .before .if2 .taken)))
     (c .refused2 .ensures)
 
@@ -50,7 +50,7 @@ grant-on-requires c κs =
     let count = at .before in
     let fields = count .before .before .before in
     let start = fields .before .before .before in
-    let fit = fields-fit _ _ _ _ (sym (count .before .before .if1 .left) ∙ fields .field-cause .ensures) in
+    let fit = fields-fit _ _ _ _ (fields .field-cause .ensures) (count .before .before .if1 .left) in
     let held = counted (decode (start .args .rec .now)) (start .args .job) _ _ (count .nodes-of .ensures .0) (at .count-held .ensures) in
     (record { right = start .pre; set = fit .0; counted = held }, fit .1)
 
@@ -64,9 +64,9 @@ returns-3 c =
     let count = at .before in
     let fields = count .before .before .before in
     let a = fields .before .before .before .args in
+    let none = holds-none (decode (a .rec .now)) (a .job) _ _ (count .nodes-of .ensures .0) (at .count-held .ensures) (omega arith) in
     by-step _
-    (request-walk _ _ _ _ (fields .field-cause .ensures) (count .before .before .if1 .left)
-    (holds-none (decode (a .rec .now)) (a .job) _ _ (count .nodes-of .ensures .0) (at .count-held .ensures) (omega arith)))
+    (runs _ _ _ (fields-then _ _ _ _ (fields .field-cause .ensures) (count .before .before .if1 .left) (none, tt)) refl)
     (granted .grant-on .ensures)
 
 pub request-on-spec : {M : Type 1} → statement M

@@ -2,7 +2,7 @@
 use borrow.Author.Needs.{needs}
 use Prim.Native.Nat.{ℕ, _+_, _*_}
 use mathlib.Core.Path.{sym, ap, _∙_}
-use Rattle.history.specs.Calls.{word}
+use Rattle.hypercube.specs.Words.{word}
 use Rattle.record.proofs.Round.{decode-holder}
 use Rattle.nodes.proofs.holder_at.Statement.{statement}
 use Rattle.nodes.proofs.holder_at.Tie as tie

@@ -2,7 +2,7 @@
 use Prim.Native.Nat.{_+_, _*_, _-_}
 use mathlib.Core.Path.{refl}
 use native.Mathlib.Omega.{arith}
-use Rattle.history.specs.Calls.{word}
+use Rattle.hypercube.specs.Words.{word}
 use Rattle.hypercube.specs.Filled.{Filled}
 use Rattle.hypercube.proofs.Filled.{filled-none, filled-next, filled-all}
 use Rattle.record.specs.Layout.{holdersAt, decode}

@@ -4,9 +4,10 @@ use mathlib.Core.Path.{sym, _∙_}
 use native.Mathlib.Omega.{arith}
 use borrow.Author.Needs.{needs}
 use Rattle.hypercube.proofs.Filled.{filled-next, filled-to}
+use Rattle.state.proofs.Valid.{Sized}
 use Rattle.record.specs.Layout.{conditionsAt, recordSize}
 use Rattle.record.specs.Stored.{Begun}
-use Rattle.record.proofs.Round.{Sized, encode-condition}
+use Rattle.record.proofs.Round.{encode-condition}
 use Rattle.record.proofs.Stored.{stored-all}
 use Rattle.record.proofs.put_conditions.Statement.{statement}
 use Rattle.record.proofs.put_conditions.Tie as tie

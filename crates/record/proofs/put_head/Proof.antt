@@ -4,9 +4,10 @@ use mathlib.Core.Path.{refl, sym, _∙_}
 use native.Mathlib.Omega.{arith}
 use borrow.Author.Needs.{needs}
 use lib.ListN.{set, length-set}
+use Rattle.state.proofs.Valid.{Sized}
 use Rattle.record.specs.Layout.{recordSize, mapAt, encode}
 use Rattle.record.specs.Stored.{Stored}
-use Rattle.record.proofs.Round.{Sized, encode-map, encode-zero}
+use Rattle.record.proofs.Round.{encode-map, encode-zero}
 use Rattle.record.proofs.Stored.{stored-from, stored-none, stored-next, stored-then, stored-to}
 use Rattle.record.proofs.put_head.Statement.{statement}
 use Rattle.record.proofs.put_head.Tie as tie

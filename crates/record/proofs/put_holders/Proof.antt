@@ -6,9 +6,10 @@ use borrow.Author.Needs.{needs}
 use mir.Syntax.{w16}
 use mir.Val.{Fits}
 use lib.ListN.{getD, length-set}
+use Rattle.state.proofs.Valid.{Sized}
 use Rattle.record.specs.Layout.{conditionsAt, holdersAt}
 use Rattle.record.specs.Stored.{Stored}
-use Rattle.record.proofs.Round.{Sized, encode-low, encode-high}
+use Rattle.record.proofs.Round.{encode-low, encode-high}
 use Rattle.record.proofs.Stored.{stored-from, stored-next, stored-to}
 use Rattle.record.proofs.put_holders.Statement.{statement}
 use Rattle.record.proofs.put_holders.Tie as tie

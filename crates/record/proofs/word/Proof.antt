@@ -1,7 +1,7 @@
 -- `record::word` meets its contract. Assumes nothing.
 use borrow.Author.Needs.{needs}
 use native.Mathlib.Omega.{arith}
-use Rattle.history.specs.Calls.{word}
+use Rattle.hypercube.specs.Words.{word}
 use Rattle.record.proofs.word.Statement.{statement}
 use Rattle.record.proofs.word.Tie as tie
 

@@ -1,11 +1,10 @@
 -- `reports::report_on` meets its contract. Assumes nothing.
 use borrow.Author.Needs.{needs}
-use mathlib.Core.Path.{refl}
+use mathlib.Core.Path.{refl, sym, _∙_}
 use native.Mathlib.Omega.{arith}
-use borrow.Author.Tests.{not-true, not-false}
-use Rattle.state.proofs.Steps.{report-8, report-12, report-done}
-use Rattle.steps.proofs.Ways.{refuses, accepts}
-use Rattle.reports.proofs.Inside.{outside, inside, node-asked, node-written}
+use Rattle.state.proofs.Steps.{runs, done-as}
+use Rattle.steps.proofs.Ways.{refuses-at, accepts}
+use Rattle.reports.proofs.Inside.{node-asked, node-written, barred-is}
 use Rattle.reports.proofs.report_on.Statement.{statement}
 use Rattle.reports.proofs.report_on.Tie as tie
 
@@ -21,15 +20,15 @@ same-length c = search needs
 returns : tie.Need-returns
 returns c =
     let test = c .before in
-    refuses _ 8 (λ z. absurd (omega arith)) (report-8 _ _ _ (outside _ _ (test .before .beyond .ensures) (test .if1 .taken))) (c .refused .ensures)
+    refuses-at _ _ _ 0 (λ z. absurd (omega arith)) (sym (test .before .beyond .ensures) ∙ test .if1 .taken) (c .refused .ensures)
 
 condition-at-requires : tie.Need-condition-at-requires
 condition-at-requires c κs =
     let test = c .before in
     node-asked _ _ (test .before .beyond .ensures) (test .before .before .before .before .pre) (test .if1 .left)
 
-is-allowed-requires : tie.Need-is-allowed-requires
-is-allowed-requires c κs = search needs
+is-barred-requires : tie.Need-is-barred-requires
+is-barred-requires c κs = search needs
 
 refused-requires-2 : tie.Need-refused-requires-2
 refused-requires-2 c κs = search needs
@@ -42,9 +41,11 @@ returns-2 c =
     let told = c .before .before in
     let read = told .before in
     let test = read .before .before in
-    refuses _ 12 (λ z. absurd (omega arith))
-    (report-12 _ _ _ (inside _ _ (test .before .beyond .ensures) (test .if1 .left)) (read .condition-at .ensures) (told .is-allowed .ensures)
-    (not-true _ (c .before .if2 .taken)))
+    refuses-at _ _ _ 1 (λ z. absurd (omega arith)) (
+      sym (test .before .beyond .ensures) ∙ test .if1 .left,
+      barred-is (test .before .before .before .before .args .reported) (read .condition-at .ensures) (told .is-barred .ensures)
+          (c .before .if2 .taken),
+    )
     (c .refused2 .ensures)
 
 told-of-requires : tie.Need-told-of-requires
@@ -68,8 +69,15 @@ returns-3 c =
     let read = second .before .before in
     let test = read .before .before in
     accepts _ _ _ refl
-    (report-done _ _ _ (inside _ _ (test .before .beyond .ensures) (test .if1 .left)) (read .condition-at .ensures) (second .before .is-allowed .ensures)
-    (not-false _ (second .if2 .left)) (told .told-of .ensures))
+    (runs _ _ _ (
+      sym (test .before .beyond .ensures) ∙ test .if1 .left,
+      (
+        barred-is (test .before .before .before .before .args .reported) (read .condition-at .ensures) (second .before .is-barred .ensures)
+            (second .if2 .left),
+        tt,
+      ),
+    )
+    (done-as _ (told .told-of .ensures)))
     (set .set-condition .ensures)
 
 pub report-on-spec : {M : Type 1} → statement M
@@ -81,7 +89,7 @@ report-on-spec =
     same-length
     returns
     condition-at-requires
-    is-allowed-requires
+    is-barred-requires
     refused-requires-2
     same-length-2
     returns-2

@@ -12,14 +12,11 @@ use lib.Seq.{getD-set-same, getD-set-other}
 use Rattle.hypercube.specs.Lists.{In, among, from}
 use Rattle.hypercube.proofs.Bits.{lt-or}
 use Rattle.hypercube.proofs.Lists.{length-of, getD-each}
-use Rattle.hypercube.proofs.Tests.{cases, either-way, refutes, same-test}
-use Rattle.history.specs.Calls.{Ask}
-use Rattle.history.specs.Verdicts.{chosen}
+use Rattle.hypercube.specs.Tests.{cases, either-way, refutes, same-test}
 use Rattle.history.specs.Account.{History, put, putAll, wipe}
 use Rattle.history.proofs.Counting.{means-among}
 use Rattle.state.specs.declared.State.{State}
 use Rattle.state.specs.States.{given, cleared}
-use Rattle.state.specs.Acts.{walkOf}
 
 -- the entry at a place, 0 beyond the list
 abbrev pub entry : List ℕ → ℕ → ℕ
@@ -59,9 +56,3 @@ entry-given l xs ys j e same b = fun-ext (λ y. ⊎-elim (inside y) (beyond y) (
         let out : among y ys ≡ false = sym (listed y) ∙ refutes (means-among y xs) (λ i. omega (arith, b y i)) in
         rw (out, List·getD-eq-default l 0 {n = y} (omega arith))
         (List·getD-eq-default (map f (from 0 1024)) 0 {n = y} (omega (arith, length-of f 0 1024)))
-
--- ---- the walk
-
--- the walk of a request or a growth goes by the history's free labels
-pub walk-is : (s : State) (a : Ask) → walkOf s (a .job) (a .dimension) (a .strategy) ≡ chosen (s .n) (view s) a
-walk-is s a = refl

@@ -1,8 +1,8 @@
--- `reports::is_allowed` meets its contract. Assumes nothing.
+-- `reports::is_barred` meets its contract. Assumes nothing.
 use native.Mathlib.Omega.{arith}
 use borrow.Author.Tests.{ne-eqb}
-use Rattle.reports.proofs.is_allowed.Statement.{statement}
-use Rattle.reports.proofs.is_allowed.Tie as tie
+use Rattle.reports.proofs.is_barred.Statement.{statement}
+use Rattle.reports.proofs.is_barred.Tie as tie
 
 returns : tie.Need-returns
 returns c = rw (c .match .keys1)
@@ -15,5 +15,5 @@ returns-3 c =
     let reported = c .before .args .reported in
     simp (ne-eqb reported 2 (λ e. omega arith), ne-eqb reported 1 (λ e. omega arith))
 
-pub is-allowed-spec : {M : Type 1} → statement M
-is-allowed-spec = tie.close (tie.spec returns returns-2 returns-3)
+pub is-barred-spec : {M : Type 1} → statement M
+is-barred-spec = tie.close (tie.spec returns returns-2 returns-3)
