@@ -1,4 +1,4 @@
-// The seven calls on a state by value.
+// The calls on a state by value.
 use hypercube::Node;
 use state::Call;
 use state::State;
@@ -24,7 +24,7 @@ pub fn call_on(s: State, c: Call) -> Step
     Step { state, reply }
 }
 
-// The seven calls on values, on any state.
+// The calls on values, on any state.
 pub fn good(s: State, x: Node) -> Step
     ensures { λ r. ⌜ r ≡ called s (Call.Good x) ⌝ }
 {

@@ -1,4 +1,4 @@
-// The seven calls on a record's bytes where they lie.
+// The calls on a record's bytes where they lie.
 use hypercube::Reply;
 use state::Call;
 use state::refused;

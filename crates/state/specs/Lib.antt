@@ -1,4 +1,4 @@
--- What the seven calls do to a state.
+-- What each call does to a state.
 pub mod States
 pub mod Valid
 pub mod Walked
