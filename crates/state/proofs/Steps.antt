@@ -6,7 +6,7 @@ use mathlib.Core.Path.{_≡_, refl, sym, ap, _∙_}
 use mathlib.Core.Bool.{Bool, true, false, not}
 use mathlib.Core.List.{List, [], _∷_, _++_}
 use borrow.Author.Tests.{ltb-false, eq-eqb, ne-eqb, eqb-false}
-use lib.Dec.{eqb, ltb}
+use lib.Dec.{eqb}
 use lib.ListN.{getD}
 use Rattle.hypercube.specs.Lists.{anyBelow, countBelow}
 use Rattle.hypercube.specs.Bits.{width}
@@ -50,6 +50,12 @@ module _ (s : State) where
   runs [] t e h = h
   runs (k ∷ ks) t e h = rw (e .0) (runs ks t (e .1) h)
 
+  -- what comes after those that are not met
+  after : (ks ms : List Check) (t : Step) → Clear ks → guarded s ms t ≡ guarded s (ks ++ ms) t
+  unfolding guarded
+  after [] ms t e = refl
+  after (k ∷ ks) ms t e = rw (e .0) (after ks ms t (e .1))
+
   -- by the number of the first that is met
   pub stopped-by : (ks ms : List Check) (t : Step) {m : ℕ} → m ≡ firstNumber ks → m ≢ 0 → refuse s m ≡ guarded s (ks ++ ms) t
   unfolding guarded firstNumber
@@ -72,9 +78,12 @@ module _ (s : State) (j k f : ℕ) {m : ℕ} (e : m ≡ fieldCause s j k f) wher
     pub fields-fit : (j ≢ 0) × (k ≤ s .n)
     fields-fit = (eqb-false j 0 (clear .0), ltb-false (s .n) k (clear .1 .0))
 
-    -- none of them is met, and what is known of the checks after them
-    pub fields-then : {A : Type 0} → A → (eqb j 0 ≡ false) × ((ltb (s .n) k ≡ false) × ((ltb 3 f ≡ false) × A))
-    fields-then h = (clear .0, (clear .1 .0, (clear .1 .1 .0, h)))
+    -- then the first that is met of the checks after them is the refusal, and where none is, the call does what it does
+    pub fields-stopped : (ms : List Check) (t : Step) (i : ℕ) → StopsAt ms i → refuse s (numberAt ms i) ≡ guarded s (fieldChecks s j k f ++ ms) t
+    fields-stopped ms t i h = stopped s ms t i h ∙ after s (fieldChecks s j k f) ms t clear
+
+    pub fields-run : (ms : List Check) (t : Step) → Clear ms → {u : Step} → u ≡ t → u ≡ guarded s (fieldChecks s j k f ++ ms) t
+    fields-run ms t c h = runs s ms t c h ∙ after s (fieldChecks s j k f) ms t clear
 
 -- ---- a job j, and k, the number of nodes that it is found to hold below N
 

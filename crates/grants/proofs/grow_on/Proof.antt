@@ -6,9 +6,9 @@ use native.Mathlib.Omega.{arith}
 use borrow.Author.Tests.{le-leb, lt-leb}
 use borrow.Author.Needs.{needs}
 use Rattle.state.specs.Checks.{heldBy}
-use Rattle.state.proofs.Steps.{counted, holds-none, holds-some, fields-refused, fields-fit, fields-then, runs}
+use Rattle.state.proofs.Steps.{counted, holds-none, holds-some, fields-refused, fields-fit, fields-stopped, fields-run}
 use Rattle.record.specs.Layout.{decode}
-use Rattle.steps.proofs.Ways.{whole, state-valid, refuses, refuses-at, by-step}
+use Rattle.steps.proofs.Ways.{whole, state-valid, refuses, by-step}
 use Rattle.grants.proofs.grow_on.Statement.{statement}
 use Rattle.grants.proofs.grow_on.Tie as tie
 
@@ -44,8 +44,8 @@ returns-2 c =
     let count = at .before in
     let fields = count .before .before .before in
     let a = fields .before .before .before .args in
-    refuses-at _ _ _ 3 (λ z. absurd (omega arith))
-    (fields-then _ _ _ _ (fields .field-cause .ensures) (count .before .before .if1 .left)
+    refuses _ _ (λ z. absurd (omega arith))
+    (fields-stopped _ _ _ _ (fields .field-cause .ensures) (count .before .before .if1 .left) _ _ 0
     (ap not (holds-none (decode (a .rec .now)) (a .job) _ _ (count .nodes-of .ensures .0) (at .count-held .ensures) (c .before .if2 .taken))))
     (c .refused2 .ensures)
 
@@ -73,8 +73,8 @@ returns-3 c =
     let a = fields .before .before .before .args in
     let e = count .nodes-of .ensures .0 in
     let q = at .count-held .ensures in
-    refuses-at _ _ _ 4 (λ z. absurd (omega arith))
-    (fields-then _ _ _ _ (fields .field-cause .ensures) (count .before .before .if1 .left) (
+    refuses _ _ (λ z. absurd (omega arith))
+    (fields-stopped _ _ _ _ (fields .field-cause .ensures) (count .before .before .if1 .left) _ _ 1 (
       ap not (holds-some (decode (a .rec .now)) (a .job) _ _ e q (some .if2 .left)),
       le-leb (2 ^ a .k) (heldBy (decode (a .rec .now)) (a .job))
           (omega (arith, power .pow2 .ensures, counted (decode (a .rec .now)) (a .job) _ _ e q)),
@@ -108,10 +108,8 @@ returns-4 c =
     let more = lt-leb (2 ^ a .k) (heldBy (decode (a .rec .now)) (a .job))
     (omega (arith, power .pow2 .ensures, counted (decode (a .rec .now)) (a .job) _ _ e q)) in
     by-step _
-    (runs _ _ _
-    (fields-then _ _ _ _ (fields .field-cause .ensures) (count .before .before .if1 .left)
-    (ap not (holds-some (decode (a .rec .now)) (a .job) _ _ e q (some .if2 .left)), (more, tt)))
-    refl)
+    (fields-run _ _ _ _ (fields .field-cause .ensures) (count .before .before .if1 .left) _ _
+    (ap not (holds-some (decode (a .rec .now)) (a .job) _ _ e q (some .if2 .left)), (more, tt)) refl)
     (granted .grant-on .ensures)
 
 pub grow-on-spec : {M : Type 1} → statement M

@@ -2,9 +2,9 @@
 use native.Mathlib.Omega.{arith}
 use mathlib.Core.Path.{refl}
 use borrow.Author.Needs.{needs}
-use Rattle.state.proofs.Steps.{counted, holds-none, holds-some, fields-refused, fields-fit, fields-then, runs}
+use Rattle.state.proofs.Steps.{counted, holds-none, holds-some, fields-refused, fields-fit, fields-stopped, fields-run}
 use Rattle.record.specs.Layout.{decode}
-use Rattle.steps.proofs.Ways.{whole, refuses, refuses-at, by-step}
+use Rattle.steps.proofs.Ways.{whole, refuses, by-step}
 use Rattle.grants.proofs.request_on.Statement.{statement}
 use Rattle.grants.proofs.request_on.Tie as tie
 
@@ -39,8 +39,8 @@ returns-2 c =
     let count = at .before in
     let fields = count .before .before .before in
     let a = fields .before .before .before .args in
-    refuses-at _ _ _ 3 (λ z. absurd (omega arith))
-    (fields-then _ _ _ _ (fields .field-cause .ensures) (count .before .before .if1 .left)
+    refuses _ _ (λ z. absurd (omega arith))
+    (fields-stopped _ _ _ _ (fields .field-cause .ensures) (count .before .before .if1 .left) _ _ 0
     (holds-some (decode (a .rec .now)) (a .job) _ _ (count .nodes-of .ensures .0) (at .count-held .ensures) (c .before .if2 .taken)))
     (c .refused2 .ensures)
 
@@ -66,7 +66,7 @@ returns-3 c =
     let a = fields .before .before .before .args in
     let none = holds-none (decode (a .rec .now)) (a .job) _ _ (count .nodes-of .ensures .0) (at .count-held .ensures) (omega arith) in
     by-step _
-    (runs _ _ _ (fields-then _ _ _ _ (fields .field-cause .ensures) (count .before .before .if1 .left) (none, tt)) refl)
+    (fields-run _ _ _ _ (fields .field-cause .ensures) (count .before .before .if1 .left) _ _ (none, tt) refl)
     (granted .grant-on .ensures)
 
 pub request-on-spec : {M : Type 1} → statement M
