@@ -6,7 +6,7 @@ use mathlib.Core.List.{[], _∷_}
 use native.Mathlib.Decide.{ℕ-discrete}
 use Rattle.hypercube.specs.Lists.{In}
 use Rattle.hypercube.specs.Conditions.{Condition, so, _at-most_, _and_, one-of, allOf, every-of}
-use Rattle.history.specs.Calls.{Kind, release, _of_, reporting, naming, asking}
+use Rattle.history.specs.Calls.{Kind, release, _of_, reporting, naming, asking, starting}
 use Rattle.history.specs.Calls.{Effect, Effect-discrete, sets, relabels, grants, releases, nothing, kinds, is-row, effect}
 use Rattle.history.proofs.KindTable.{found}
 
@@ -36,3 +36,8 @@ pub asking-grants : (k : Kind) → In k asking → effect k ≡ grants
 unfolding allOf
 asking-grants k i =
     only-one (every-of asking (λ j. one-of (Effect-discrete ℕ-discrete) (effect j) (grants ∷ [])) .means .holds refl k i)
+
+-- a call of a job that holds none names its job
+pub starting-names : (k : Kind) → In k starting → In k naming
+unfolding allOf
+starting-names = every-of starting (λ j. j of naming) .means .holds refl

@@ -7,16 +7,19 @@ use borrow.Author.Tests.{ne-eqb}
 use Rattle.hypercube.specs.declared.Subcube.{Subcube}
 use Rattle.hypercube.specs.declared.Walk.the-variants.{Found}
 use Rattle.hypercube.proofs.Bits.{lt-or}
-use Rattle.history.specs.Calls.{Call, request, kind, job, ask}
+use Rattle.hypercube.specs.Lists.{In}
+use Rattle.history.specs.Calls.{Call, kind, job, ask, starting}
 use Rattle.history.specs.Account.{History, putAll, wipe, withHolder, FreeNode, memberNodes}
 use Rattle.history.specs.Verdicts.{give}
 use Rattle.history.specs.Claims.{Bounded}
+use Rattle.history.proofs.Effects.{starting-names}
 use Rattle.history.proofs.Passed.{Passed}
 
-module _ (n : ℕ) (h : History) (B : Bounded n h) (c : Call) (k : kind c ≡ request) (p : Passed n h c) where
+module _ (n : ℕ) (h : History) (B : Bounded n h) (c : Call) (k : In (kind c) starting) (p : Passed n h c) where
   not-its : (x : ℕ) → h .holder x ≢ job c
   not-its x e =
-      ⊎-elim (λ (l : x < 2 ^ n). p .holds-none k (x, l, e)) (λ (g : 2 ^ n ≤ x). p .job-set (inl k) (sym e ∙ B .no-holders x g)) (lt-or x (2 ^ n))
+      ⊎-elim (λ (l : x < 2 ^ n). p .holds-none k (x, l, e))
+      (λ (g : 2 ^ n ≤ x). p .job-set (starting-names (kind c) k) (sym e ∙ B .no-holders x g)) (lt-or x (2 ^ n))
 
   pub plain-free : (x : ℕ) → FreeNode h (ask c) x ↔ ((h .condition x ≡ 1) × (h .holder x ≡ 0))
   plain-free x = (λ f. (f .0, unheld (f .1)), λ f. (f .0, inl (f .1)))
