@@ -28,7 +28,7 @@ barred v c = cond (eqb v 2) false (cond (eqb v 1) (eqb c 2) (not (eqb c 2)))
 abbrev pub reportChecks : State → ℕ → ℕ → List Check
 reportChecks s x v = 8 check leb (nodeCount s) x ∷ 12 check barred v (getD (s .conditions) x 0) ∷ []
 
--- of the fields of a request or a growth: "job 0", "k above n", "unknown strategy"; and the first of these causes that they meet, or 0
+-- of the fields of a request or a growth: "job 0", "k above n", "strategy above 3"; and the first of these causes that they meet, or 0
 abbrev pub fieldChecks : State → ℕ → ℕ → ℕ → List Check
 fieldChecks s j k f = 6 check eqb j 0 ∷ 7 check ltb (s .n) k ∷ 9 check ltb 3 f ∷ []
 
