@@ -25,10 +25,6 @@ use Rattle.log.proofs.Nexts.{framed}
 -- ---- the outcome that a number and a reply say
 
 module _ (m : ℕ) (p : List ℕ) where
-  pub reply-2 : m ≡ 2 → Refused m 0 ≡ told (heard m p)
-  unfolding heard
-  reply-2 e = rw e
-
   pub reply-refused : (t : ℕ) → m ≢ 2 → m ≢ 0 → t ≡ word p 6 → Refused m t ≡ told (heard m p)
   unfolding heard
   reply-refused t y z e = rw (ne-eqb m 0 z, ne-eqb m 2 y, e)

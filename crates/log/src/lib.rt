@@ -1,6 +1,7 @@
 // A log of frames: one frame at a time from a window on the input, and its outcome. Document 01, "Log program".
 use tally::Outcome;
 ghost use mathlib.Core.Path.{_≡_};
+ghost use mathlib.Core.Logic.{_≢_};
 ghost use mathlib.Core.Bool.{cond};
 ghost use lib.ListN.{length, drop};
 ghost use Rattle.log.specs.declared.Next.the-variants.{Broken, More};
@@ -92,14 +93,11 @@ fn set_up(rec: &mut [u8], frame: &[u8]) -> u32
     cube::cube_setup(rec, record::word(frame, 4) as u32)
 }
 
-// The outcome of a call, from the number that it returned and the reply, which 2 leaves unwritten.
+// The outcome of a call, from the number that it returned and the reply. There is room for it, so the number isn't 2, which has no reply.
 fn read_reply(number: u32, reply: &[u8]) -> Outcome
-    requires { ⌜ length (now reply) ≡ 12 ⌝ }
+    requires { ⌜ (length (now reply) ≡ 12) × (number ≢ 2) ⌝ }
     ensures { λ o. ⌜ o ≡ told (heard number (now (reply .entry))) ⌝ }
 {
-    if number == 2 {
-        return Outcome::Refused { number, tried: 0 };
-    }
     if number != 0 {
         return Outcome::Refused {
             number,

@@ -1,5 +1,8 @@
 -- `log::later` meets its contract. Assumes nothing.
 use borrow.Author.Needs.{needs}
+use mathlib.Core.Path.{sym, _∙_}
+use native.Mathlib.Omega.{arith}
+use Rattle.cube.proofs.Room.{not-2}
 use Rattle.log.proofs.Stepping.{later-told}
 use Rattle.log.proofs.later.Statement.{statement}
 use Rattle.log.proofs.later.Tie as tie
@@ -14,7 +17,7 @@ slice-aggregate-read-reply : tie.Need-slice-aggregate-read-reply
 slice-aggregate-read-reply c = search needs
 
 read-reply-requires : tie.Need-read-reply-requires
-read-reply-requires c κs = search needs
+read-reply-requires c κs = (search needs, λ e. not-2 _ _ _ (omega arith) (sym (c .before .before .before .before .cube-call .ensures .returned) ∙ e))
 
 same-length : tie.Need-same-length
 same-length c = search needs
