@@ -109,6 +109,7 @@ valid-of s small B = record {
   conditions = λ x l. B .conditions x;
   no-conditions = λ x g l. B .no-conditions x g;
   no-holders = λ x g l. B .no-holders x g;
+  unstarred = λ x l. B .unstarred x;
 }
 
 pub valid-stands : {n : ℕ} {h : History} {r : List ℕ} → n ≤ 10 → Bounded n h → (S : Stands n h r) → Valid (S .state)

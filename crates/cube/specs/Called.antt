@@ -12,7 +12,7 @@ use Rattle.record.specs.Layout.{recordSize, encode, decode, validRecord}
 use Rattle.frames.specs.Parse.{parsed}
 pub use Rattle.frames.specs.Parse.{stepOf}
 
--- "Set-up gives 1 for a buffer that isn't 3088 bytes, before 7."
+-- "Set-up gives 1 for a buffer that isn't [the record's size], before 7"; document 02, (f): "Set-up and refusal 1 use the new size"
 unfoldable pub setupNumber : List ℕ → ℕ → ℕ
 setupNumber r n = cond (eqb (length r) recordSize) (cond (leb n 10) 0 7) 1
 

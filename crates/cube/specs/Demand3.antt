@@ -15,9 +15,9 @@ use Rattle.history.specs.Account.{History, fresh, AllFree}
 use Rattle.history.specs.Causes.{First, NoneMet, NoMemberFree, asked, earlier, causes}
 use Rattle.hypercube.specs.declared.Reply.the-variants.{Refused}
 use Rattle.history.specs.Verdicts.{tried, verdict}
-use Rattle.history.specs.Held.{Held}
+use Rattle.history.specs.Held.{Held, nodes}
 use Rattle.history.specs.Claims.{HeldRight}
-use Rattle.record.specs.Layout.{conditionsAt, holdersAt, recordSize, validRecord}
+use Rattle.record.specs.Layout.{mapAt, holdersAt, conditionsAt, starsAt, recordSize, validRecord}
 use Rattle.cube.specs.Called.{Program}
 use Rattle.cube.specs.Run.{Exchange, Exchanges, _next_, fed, feed, recordAfter, number, reply, heldAt, historyFrom}
 
@@ -45,17 +45,19 @@ pub record Judged (n : ℕ) (h : History) (e : Exchange) (m : ℕ) (p′ r r′ 
   pub gets-first : In (kind (fed e)) asking → NoneMet (earlier n) h (fed e) → ¬ NoMemberFree n h (ask (fed e)) → Gets n h e p′
 
 -- the record's bytes r are the history's: "its holders and conditions are compared below 2^n and its map up to n, and entries of these beyond that
--- stay as set-up left them", in r₀
+-- stay as set-up left them", in r₀; so are its star bits
 pub record Recorded (n : ℕ) (h : History) (r₀ r : List ℕ) : Type 0 where
   pub whole : length r ≡ recordSize
   pub valid : validRecord r ≡ true
   pub dimension : getD r 4 0 ≡ n
-  pub directions : (i : ℕ) → i < n → getD r (5 + i) 0 ≡ getD (h .directions) i 0
+  pub directions : (i : ℕ) → i < n → getD r (mapAt + i) 0 ≡ getD (h .directions) i 0
   pub holders : (x : ℕ) → x < 2 ^ n → word r (holdersAt + 2 * x) ≡ h .holder x
   pub conditions : (x : ℕ) → x < 2 ^ n → getD r (conditionsAt + x) 0 ≡ h .condition x
-  pub directions-beyond : (i : ℕ) → n ≤ i → i < 10 → getD r (5 + i) 0 ≡ getD r₀ (5 + i) 0
+  pub stars : (x : ℕ) → x < 2 ^ n → word r (starsAt + 2 * x) ≡ h .stars x
+  pub directions-beyond : (i : ℕ) → n ≤ i → i < 10 → getD r (mapAt + i) 0 ≡ getD r₀ (mapAt + i) 0
   pub holders-beyond : (x : ℕ) → 2 ^ n ≤ x → x < 1024 → word r (holdersAt + 2 * x) ≡ word r₀ (holdersAt + 2 * x)
   pub conditions-beyond : (x : ℕ) → 2 ^ n ≤ x → x < 1024 → getD r (conditionsAt + x) 0 ≡ getD r₀ (conditionsAt + x) 0
+  pub stars-beyond : (x : ℕ) → 2 ^ n ≤ x → x < 1024 → word r (starsAt + 2 * x) ≡ word r₀ (starsAt + 2 * x)
 
 -- of the program P, for a list that begins at the record r of a cube of dimension n, where the history is s and the subcubes gs are held:
 -- every list of calls, and every call after it
@@ -64,6 +66,11 @@ pub record ListRight (P : Program) (n : ℕ) (r : List ℕ) (s : History) (gs : 
       → Judged n (historyFrom n s es) e (number P r es e) (reply P r es e) (recordAfter P r es) (recordAfter P r (es next e))
   pub recorded : (es : Exchanges) → Recorded n (historyFrom n s es) r (recordAfter P r es)
   pub held : (es : Exchanges) → HeldRight n s (feed es) (heldAt P r gs es)
+  -- document 02, (f): "every node of a job carries the same value, the one that its last grant replied", and one that is unheld 0
+  pub starred : (es : Exchanges) (g : Held) → In g (heldAt P r gs es) → (x : ℕ) → In x (nodes g)
+      → word (recordAfter P r es) (starsAt + 2 * x) ≡ g .stars
+  pub unstarred : (es : Exchanges) (x : ℕ) → x < 1024 → word (recordAfter P r es) (holdersAt + 2 * x) ≡ 0
+      → word (recordAfter P r es) (starsAt + 2 * x) ≡ 0
 
 -- for a cube of dimension n set up on the buffer b: the list begins at the record as set-up left it
 pub record Demand3 (P : Program) (n : ℕ) (b : List ℕ) : Type 0 where

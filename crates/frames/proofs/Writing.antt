@@ -9,7 +9,7 @@ use lib.Seq.{sets, sets-eq, drop-cons}
 use Rattle.hypercube.specs.Words.{word, words}
 use Rattle.hypercube.specs.Replies.{fields, frameOf, written}
 use Rattle.hypercube.specs.declared.Reply.{Reply}
-use Rattle.record.proofs.Round.{length-words}
+use Rattle.record.proofs.Between.{length-words}
 use Rattle.frames.specs.Parts.{putWord}
 
 -- the numbers are read back

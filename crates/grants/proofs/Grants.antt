@@ -24,7 +24,7 @@ use Rattle.state.specs.declared.State.{State}
 use Rattle.state.specs.Valid.{Valid}
 use Rattle.state.specs.Checks.{nodeCount}
 use Rattle.state.specs.Effects.{freeLabel, walkOf}
-use Rattle.nodes.specs.Holders.{LowestOf}
+use Rattle.nodes.specs.Lowest.{LowestOf}
 
 -- ---- the flags of the state s where job j asks, by node and moved to their labels
 

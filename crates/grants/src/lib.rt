@@ -6,7 +6,7 @@ ghost use mathlib.Core.Path.{_≡_};
 ghost use mathlib.Core.Bool.{true};
 ghost use Prim.Native.Nat.{_≤_};
 ghost use Rattle.state.specs.declared.Call.the-variants.{Request, Release, Grow};
-ghost use Rattle.state.specs.States.{withHolders, cleared};
+ghost use Rattle.state.specs.States.{lost};
 ghost use Rattle.state.specs.Checks.{fieldCause};
 ghost use Rattle.state.specs.Effects.{walkOf};
 ghost use Rattle.state.specs.Walked.{triedIn};
@@ -40,7 +40,7 @@ fn walk_of(rec: &[u8], map: &[u8; 10], job: u16, k: u8, strategy: u8) -> Walk
 // The job's nodes made unheld, before it is given others. `held` is how many it has: a request's job has none, and nothing is written.
 fn lose(rec: &mut [u8], job: u16, held: u16)
     requires { ⌜ Holding (now rec) job held ⌝ }
-    ensures { λ _. ⌜ now (rec .exit) ≡ encode (withHolders (decode (now (rec .entry))) (cleared (decode (now (rec .entry)) .holders) job)) ⌝ }
+    ensures { λ _. ⌜ now (rec .exit) ≡ encode (lost (decode (now (rec .entry))) job) ⌝ }
 {
     if held == 0 {
         return;

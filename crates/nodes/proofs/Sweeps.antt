@@ -1,45 +1,18 @@
 -- A part of a record that a loop changes in place, one entry after the other. Assumes nothing.
 use Prim.Native.Nat.{ℕ, _+_, _*_, _<_, _≤_}
-use mathlib.Core.Path.{_≡_, refl, sym, ap, _∙_}
+use mathlib.Core.Path.{_≡_, sym, ap, _∙_}
 use mathlib.Core.List.{List}
 use native.Mathlib.Omega.{arith}
+use lib.Dec.{eqb}
 use lib.ListN.{length, getD, set}
 use Rattle.hypercube.proofs.Filled.{Swept, swept-none, swept-put, swept-all}
 use Rattle.hypercube.specs.Words.{word}
 use Rattle.state.specs.declared.State.{State}
-use Rattle.state.specs.States.{withMap, withHolders}
 use Rattle.state.proofs.Valid.{Sized}
 use Rattle.record.specs.Layout.{holdersAt, encode, decode, Encoded}
 use Rattle.record.proofs.Round.{decode-holder, decode-encode}
-
--- a list of a state's, that may be put anew
-pub record Part : Type 0 where
-  pub get : State → List ℕ
-  pub put : State → List ℕ → State
-  pub got : (s : State) (l : List ℕ) → get (put s l) ≡ l
-  pub kept : (s : State) → put s (get s) ≡ s
-  pub again : (s : State) (l m : List ℕ) → put (put s l) m ≡ put s m
-  pub sized : (s : State) (l : List ℕ) → Sized s → length l ≡ length (get s) → Sized (put s l)
-
-abbrev pub the-map : Part
-the-map = record {
-  get = λ s. s .map;
-  put = withMap;
-  got = λ s l. refl;
-  kept = λ s. refl;
-  again = λ s l m. refl;
-  sized = λ s l z e. record { directions = e ∙ z .directions; holders = z .holders; conditions = z .conditions };
-}
-
-abbrev pub the-holders : Part
-the-holders = record {
-  get = λ s. s .holders;
-  put = withHolders;
-  got = λ s l. refl;
-  kept = λ s. refl;
-  again = λ s l m. refl;
-  sized = λ s l z e. record { directions = z .directions; holders = e ∙ z .holders; conditions = z .conditions };
-}
+use Rattle.nodes.specs.Words.{Words, wordsOf}
+use Rattle.nodes.proofs.Parts.{Part, the-words, holder-kept, words-read}
 
 -- r is the record of s with the entries of that part so far
 pub record Sweeping (p : Part) (s : State) (f : ℕ → ℕ) (i : ℕ) (r : List ℕ) : Type 0 where
@@ -79,8 +52,14 @@ module _ {p : Part} {f : ℕ → ℕ} {i : ℕ} {r : List ℕ} where
         W .says
         ∙ ap (λ (l : List ℕ). encode (p .put s l)) (swept-all m (W .swept) e (λ k b. meant k) (λ k g b. h k g b ∙ sym (meant k b)))
 
--- the next holder is as it was
-pub holder-next : {s : State} {f : ℕ → ℕ} {i : ℕ} {r : List ℕ} → Sized s → Sweeping the-holders s f i r → i < 1024
-    → word r (holdersAt + 2 * i) ≡ getD (s .holders) i 0
-holder-next {s} {f} {i} {r} z W h =
-    sym (decode-holder r i h) ∙ ap (λ (t : State). getD (t .holders) i 0) (said z W) ∙ W .swept .rest i (omega arith)
+-- the words at a place, one after the other: the next one, and its node's holder, are as they were
+module _ (at : ℕ) {s : State} {f : ℕ → ℕ} {i : ℕ} {r : List ℕ} (z : Sized s) (W : Sweeping (the-words at) s f i r) (h : i < 1024) where
+  pub word-next : Words at → word r (at + 2 * i) ≡ getD (wordsOf at s) i 0
+  word-next w =
+      sym (words-read at w r i h) ∙ ap (λ (t : State). getD (wordsOf at t) i 0) (said z W)
+      ∙ ap (λ (l : List ℕ). getD l i 0) (the-words at .got s (W .entries)) ∙ W .swept .rest i (omega arith)
+
+  pub holder-next : word r (holdersAt + 2 * i) ≡ getD (s .holders) i 0
+  holder-next =
+      sym (decode-holder r i h) ∙ ap (λ (t : State). getD (t .holders) i 0) (said z W)
+      ∙ holder-kept s (W .entries) (eqb at holdersAt) i (W .swept .rest i (omega arith))

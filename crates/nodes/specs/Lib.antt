@@ -1,2 +1,3 @@
 -- What the functions on a record's nodes ask.
-pub mod Holders
+pub mod Words
+pub mod Lowest

@@ -1,4 +1,4 @@
-// The nodes' holders and conditions, and the map, read and changed on a record's bytes where they lie.
+// The nodes' holders, conditions and star bits, and the map, read and changed on a record's bytes where they lie.
 use hypercube::Node;
 use labels::Relabelled;
 use record::all_zero;
@@ -14,9 +14,10 @@ ghost use Rattle.hypercube.specs.Lists.{anyBelow, countBelow};
 ghost use Rattle.hypercube.specs.Subcubes.{vertices};
 ghost use Rattle.labels.specs.Flags.{EmptyFrom, flag, byNode};
 ghost use Rattle.labels.specs.Relabelling.{relabelling};
-ghost use Rattle.state.specs.States.{withCondition, withMap, withHolders, given, cleared};
+ghost use Rattle.state.specs.States.{withCondition, withMap, given, cleared, lost, taken};
 ghost use Rattle.record.specs.Layout.{recordSize, encode, decode, Encoded, headRight};
-ghost use Rattle.nodes.specs.Holders.{LowestOf};
+ghost use Rattle.nodes.specs.Words.{Words, wordsOf, withWords};
+ghost use Rattle.nodes.specs.Lowest.{LowestOf};
 
 // A node's number, as a place among the 1024.
 fn index(x: Node) -> usize
@@ -50,13 +51,13 @@ pub fn set_condition(bytes: &mut [u8], x: Node, condition: u8)
     bytes[record::CONDITIONS + i] = condition;
 }
 
-// Node x's holder, set in place.
-fn set_holder(bytes: &mut [u8], x: usize, job: u16)
-    requires { ⌜ Encoded (now bytes) × (x < 1024) ⌝ }
-    ensures { λ _. ⌜ now (bytes .exit) ≡ encode (withHolders (decode (now (bytes .entry))) (set (decode (now (bytes .entry)) .holders) x job)) ⌝ }
+// Node x's word of the part from place `at` on, its holder or its star bits, set in place.
+fn set_word(bytes: &mut [u8], at: usize, x: usize, v: u16)
+    requires { ⌜ Encoded (now bytes) × ((x < 1024) × Words at) ⌝ }
+    ensures { λ _. ⌜ now (bytes .exit) ≡ encode (withWords at (decode (now (bytes .entry))) (set (wordsOf at (decode (now (bytes .entry)))) x v)) ⌝ }
 {
-    bytes[record::HOLDERS + 2 * x] = (job % 256) as u8;
-    bytes[record::HOLDERS + 2 * x + 1] = (job / 256) as u8;
+    bytes[at + 2 * x] = (v % 256) as u8;
+    bytes[at + 2 * x + 1] = (v / 256) as u8;
 }
 
 // Entry i of the map, set in place.
@@ -86,7 +87,7 @@ pub fn relabelling(bytes: &[u8]) -> Relabelled
     ensures { λ r. ⌜ r ≡ relabelling (decode (now (bytes .entry)) .n) (decode (now (bytes .entry)) .conditions) ⌝ }
 {
     let n = record::dimension(bytes);
-    labels::relabel(n as u16, &bytes[record::CONDITIONS..record::CONDITIONS_END])
+    labels::relabel(n as u16, &bytes[record::CONDITIONS..record::STARS])
 }
 
 // Whether any of the nodes below `size` is held: a byte of their holders isn't 0.
@@ -114,63 +115,79 @@ pub fn count_held(bytes: &[u8], size: usize, job: u16) -> u16
     count
 }
 
-// Node y's holder once the job has the subcube with this lowest node and these star bits: y is one of its nodes where its other bits are the
-// lowest's.
-fn after_grant(y: u16, first: u16, stars: u16, job: u16, holder: u16) -> u16
+// Node y's word once v stands at each node of the subcube with this lowest node and these star bits: y is one of its nodes where its other bits are
+// the lowest's.
+fn after_grant(y: u16, first: u16, stars: u16, v: u16, old: u16) -> u16
     requires { ⌜ (y < 1024) × (first < 1024) ⌝ }
-    ensures { λ r. ⌜ r ≡ cond (eqb (first + bitAnd y stars) y) job holder ⌝ }
+    ensures { λ r. ⌜ r ≡ cond (eqb (first + bitAnd y stars) y) v old ⌝ }
 {
-    if first + (y & stars) == y {
-        job
-    } else {
-        holder
-    }
+    if first + (y & stars) == y { v } else { old }
 }
 
-// The job made the holder of each node of the subcube with this lowest node and these star bits.
-// Its nodes lie from the lowest to the one with all stars set. As in `clear`, a holder is stored at each number from one to the other,
+// v set at each node of the subcube with this lowest node and these star bits, in the part from place `at` on.
+// Its nodes lie from the lowest to the one with all stars set. As in `clear_words`, a word is stored at each number from one to the other,
 // changed or not; that and numbers of 16 bits make the loop compile to vector code.
-pub fn give(bytes: &mut [u8], low: Node, stars: u16, job: u16)
-    requires { ⌜ (length (now bytes) ≡ recordSize) × (headRight (now bytes) ≡ true) ⌝ }
+fn give_words(bytes: &mut [u8], at: usize, low: Node, stars: u16, v: u16)
+    requires { ⌜ Encoded (now bytes) × Words at ⌝ }
     requires { ⌜ LowestOf stars (low .0) ⌝ }
-    ensures { λ _. ⌜ now (bytes .exit) ≡ encode (withHolders (decode (now (bytes .entry)))
-        (given (decode (now (bytes .entry)) .holders) (vertices width stars (low .0)) job)) ⌝ }
+    ensures { λ _. ⌜ now (bytes .exit) ≡ encode (withWords at (decode (now (bytes .entry)))
+        (given (wordsOf at (decode (now (bytes .entry)))) (vertices width stars (low .0)) v)) ⌝ }
 {
     let first = low.0;
     let end = (first + stars) as usize + 1;
     let mut y = first as usize;
     while y < end {
-        let h = after_grant(
-            y as u16,
-            first,
-            stars,
-            job,
-            word(bytes, record::HOLDERS + 2 * y),
-        );
-        set_holder(bytes, y, h);
+        let w = after_grant(y as u16, first, stars, v, word(bytes, at + 2 * y));
+        set_word(bytes, at, y, w);
         y += 1;
     }
 }
 
-// A holder once the job's nodes are unheld.
-fn without(holder: u16, job: u16) -> u16
-    ensures { λ r. ⌜ r ≡ cond (eqb holder job) 0 holder ⌝ }
+// The job made the holder of each node of the subcube with this lowest node and these star bits, and the star bits stored there.
+pub fn give(bytes: &mut [u8], low: Node, stars: u16, job: u16)
+    requires { ⌜ (length (now bytes) ≡ recordSize) × (headRight (now bytes) ≡ true) ⌝ }
+    requires { ⌜ LowestOf stars (low .0) ⌝ }
+    ensures { λ _. ⌜ now (bytes .exit) ≡ encode (taken (decode (now (bytes .entry))) (vertices width stars (low .0)) job stars) ⌝ }
 {
-    if holder == job { 0 } else { holder }
+    give_words(bytes, record::HOLDERS, low, stars, job);
+    give_words(bytes, record::STARS, low, stars, stars);
 }
 
-// Every node of the job made unheld. None from `size` up is held. A holder is stored at each node, so the loop compiles to vector code.
-pub fn clear(bytes: &mut [u8], size: usize, job: u16)
-    requires { ⌜ (length (now bytes) ≡ recordSize) × (headRight (now bytes) ≡ true) ⌝ }
-    requires { ⌜ EmptyFrom (decode (now bytes) .holders) size ⌝ }
-    ensures { λ _. ⌜ now (bytes .exit) ≡ encode (withHolders (decode (now (bytes .entry))) (cleared (decode (now (bytes .entry)) .holders) job)) ⌝ }
+// A node's word once the job's nodes have none.
+fn without(holder: u16, job: u16, old: u16) -> u16
+    ensures { λ r. ⌜ r ≡ cond (eqb holder job) 0 old ⌝ }
+{
+    if holder == job { 0 } else { old }
+}
+
+// 0 set at each node of the job, in the part from place `at` on, where from `size` up nothing but 0 stands. A word is stored at each node, so the
+// loop compiles to vector code.
+fn clear_words(bytes: &mut [u8], at: usize, size: usize, job: u16)
+    requires { ⌜ Encoded (now bytes) × Words at ⌝ }
+    requires { ⌜ EmptyFrom (wordsOf at (decode (now bytes))) size ⌝ }
+    ensures { λ _. ⌜ now (bytes .exit) ≡ encode (withWords at (decode (now (bytes .entry)))
+        (cleared (wordsOf at (decode (now (bytes .entry)))) (decode (now (bytes .entry)) .holders) job)) ⌝ }
 {
     let mut x = 0;
     while x < size {
-        let h = without(word(bytes, record::HOLDERS + 2 * x), job);
-        set_holder(bytes, x, h);
+        let w = without(
+            word(bytes, record::HOLDERS + 2 * x),
+            job,
+            word(bytes, at + 2 * x),
+        );
+        set_word(bytes, at, x, w);
         x += 1;
     }
+}
+
+// Every node of the job made unheld, and its star bits 0: these first, as the holders say which are the job's. None from `size` up is held.
+pub fn clear(bytes: &mut [u8], size: usize, job: u16)
+    requires { ⌜ (length (now bytes) ≡ recordSize) × (headRight (now bytes) ≡ true) ⌝ }
+    requires { ⌜ EmptyFrom (decode (now bytes) .holders) size × EmptyFrom (decode (now bytes) .stars) size ⌝ }
+    ensures { λ _. ⌜ now (bytes .exit) ≡ encode (lost (decode (now (bytes .entry))) job) ⌝ }
+{
+    clear_words(bytes, record::STARS, size, job);
+    clear_words(bytes, record::HOLDERS, size, job);
 }
 
 // The flags of the nodes below `size` where a job asks, by node, put into flags that are 0 from there up. Condition and holder are read at every

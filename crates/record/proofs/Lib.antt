@@ -1,4 +1,6 @@
 -- The laws of the record's bytes.
+pub mod Between
+pub mod Places
 pub mod Round
 pub mod Stored
 pub mod Refusal

@@ -8,7 +8,7 @@ use lib.Dec.{eqb}
 use lib.ListN.{length, getD}
 use Rattle.hypercube.specs.Words.{word}
 use Rattle.state.specs.Valid.{valid}
-use Rattle.record.specs.Layout.{recordSize, decode, headRight, validRecord}
+use Rattle.record.specs.Layout.{recordSize, recordKind, decode, headRight, validRecord}
 
 module _ (r : List ℕ) where
   -- ---- the head
@@ -17,11 +17,11 @@ module _ (r : List ℕ) where
   unfolding headRight
   head-not-size p = simp (ne-eqb _ _ p)
 
-  pub head-not-kind : word r 0 ≡ recordSize → (word r 2 ≡ 1 → ⊥) → false ≡ headRight r
+  pub head-not-kind : word r 0 ≡ recordSize → (word r 2 ≡ recordKind → ⊥) → false ≡ headRight r
   unfolding headRight
   head-not-kind p q = simp (eq-eqb _ _ p, ne-eqb _ _ q)
 
-  pub head-zero-byte : word r 0 ≡ recordSize → word r 2 ≡ 1 → eqb (getD r 15 0) 0 ≡ headRight r
+  pub head-zero-byte : word r 0 ≡ recordSize → word r 2 ≡ recordKind → eqb (getD r 15 0) 0 ≡ headRight r
   unfolding headRight
   head-zero-byte p q = simp (eq-eqb _ _ p, eq-eqb _ _ q)
 

@@ -5,10 +5,10 @@ use Prim.Native.Nat.{ℕ, zero, suc, _+_, _*_, _%_, _/_, _-_, _<_, _≤_}
 use mathlib.Core.Path.{_≡_, refl, sym, ap, subst, _∙_}
 use mathlib.Core.Logic.{⊎-elim}
 use mathlib.Core.Bool.{true}
-use mathlib.Core.List.{List, [], _∷_, _++_, map}
+use mathlib.Core.List.{List, [], _++_, map}
 use native.Mathlib.Omega.{arith}
 use borrow.Author.Tests.{eq-eqb}
-use lib.ListN.{length, getD, length-append, List·getD-append}
+use lib.ListN.{length, getD, length-append}
 use lib.Seq.{ext-getD}
 use Rattle.hypercube.specs.Words.{word, words}
 use Rattle.hypercube.proofs.Bits.{lt-or}
@@ -17,85 +17,66 @@ use Rattle.hypercube.specs.Tests.{means-true, means-eq, means-and}
 use Rattle.state.specs.declared.State.{State}
 use Rattle.state.specs.Valid.{valid}
 use Rattle.state.proofs.Valid.{Sized}
-use Rattle.record.specs.Layout.{mapAt, conditionsAt, holdersAt, recordSize, encode, decode, Encoded, headRight, validRecord}
-
--- ---- two bytes of each number
-
-pub length-words : (l : List ℕ) → length (words l) ≡ 2 * length l
-unfolding words
-length-words [] = refl
-length-words (x ∷ xs) = omega (arith, length-words xs)
-
-pub low-at : (l : List ℕ) (i : ℕ) → i < length l → getD (words l) (2 * i) 0 ≡ getD l i 0 % 256
-unfolding words
-low-at [] i h = absurd (omega arith)
-low-at (x ∷ xs) zero h = refl
-low-at (x ∷ xs) (suc i) h = let e : 2 * suc i ≡ suc (suc (2 * i)) = omega arith in rw e (low-at xs i (omega arith))
-
-pub high-at : (l : List ℕ) (i : ℕ) → i < length l → getD (words l) (2 * i + 1) 0 ≡ getD l i 0 / 256
-unfolding words
-high-at [] i h = absurd (omega arith)
-high-at (x ∷ xs) zero h = refl
-high-at (x ∷ xs) (suc i) h = let e : 2 * suc i + 1 ≡ suc (suc (2 * i + 1)) = omega arith in rw e (high-at xs i (omega arith))
+use Rattle.record.specs.Layout.{recordSize, recordKind, mapAt, holdersAt, conditionsAt, starsAt}
+use Rattle.record.specs.Layout.{encode, decode, Encoded, headRight, validRecord}
+use Rattle.record.proofs.Between.{length-words, low-at, high-at, byte-between}
+use Rattle.record.proofs.Places.{first, head, toConditions, toStars, afterHolders, afterMap, by-map, by-holders, by-conditions, by-stars}
+use Rattle.record.proofs.Places.{to-holders, to-conditions, to-stars}
 
 -- ---- the record of a state
 
--- the parts of a record: its first bytes, and the rest from the map, from the zero byte and from the holders on
-abbrev first : State → List ℕ
-first s = (recordSize % 256) ∷ (recordSize / 256) ∷ 1 ∷ 0 ∷ s .n ∷ []
+-- r says the 1024 words l from place at on
+pub record Says (r : List ℕ) (at : ℕ) (l : List ℕ) : Type 0 where
+  pub entries : length l ≡ 1024
+  pub byte : (i j : ℕ) → i < 2048 → at + i ≡ j → getD r j 0 ≡ getD (words l) i 0
 
-abbrev holdersOn : State → List ℕ
-holdersOn s = words (s .holders) ++ s .conditions
+module _ {r : List ℕ} {at : ℕ} {l : List ℕ} where
+  between : (xs ys : List ℕ) → length xs ≡ at → length l ≡ 1024 → r ≡ xs ++ (words l ++ ys) → Says r at l
+  between xs ys long e says = record {
+    entries = e;
+    byte = λ i j h k. ap (λ (b : List ℕ). getD b j 0) says ∙ byte-between xs ys at long (words l) i j (omega (arith, length-words l)) k;
+  }
 
-abbrev zeroOn : State → List ℕ
-zeroOn s = (0 ∷ []) ++ holdersOn s
+  module _ (S : Says r at l) (x : ℕ) (h : x < 1024) where
+    low-says : getD r (at + 2 * x) 0 ≡ getD l x 0 % 256
+    low-says = S .byte (2 * x) (at + 2 * x) (omega arith) refl ∙ low-at l x (omega (arith, S .entries))
 
-abbrev mapOn : State → List ℕ
-mapOn s = s .map ++ zeroOn s
+    high-says : getD r (at + 2 * x + 1) 0 ≡ getD l x 0 / 256
+    high-says = S .byte (2 * x + 1) (at + 2 * x + 1) (omega arith) (omega arith) ∙ high-at l x (omega (arith, S .entries))
+
+    pub word-says : word r (at + 2 * x) ≡ getD l x 0
+    unfolding word
+    word-says = omega (arith, low-says, high-says)
 
 module _ (s : State) (z : Sized s) where
   pub length-encode : length (encode s) ≡ recordSize
   unfolding encode
-  length-encode = simp (length-append, length-words, z .directions, z .holders, z .conditions)
+  length-encode = simp (length-append, length-words, z .directions, z .holders, z .conditions, z .stars)
 
   pub encode-n : getD (encode s) 4 0 ≡ s .n
   unfolding encode
   encode-n = refl
 
   pub encode-map : (i : ℕ) → i < 10 → getD (encode s) (mapAt + i) 0 ≡ getD (s .map) i 0
-  unfolding encode
-  encode-map i h = getD-past (first s) (mapOn s) 0 i (mapAt + i) refl ∙ List·getD-append (s .map) (zeroOn s) 0 i (omega (arith, z .directions))
+  encode-map i h =
+      ap (λ (r : List ℕ). getD r (mapAt + i) 0) (by-map s (s .map))
+      ∙ byte-between (first s) (afterMap s) mapAt refl (s .map) i (mapAt + i) (omega (arith, z .directions)) refl
 
   pub encode-zero : getD (encode s) 15 0 ≡ 0
   unfolding encode
-  encode-zero = getD-past (first s) (mapOn s) 0 10 15 refl ∙ getD-past (s .map) (zeroOn s) 0 0 10 (omega (arith, z .directions))
+  encode-zero = getD-past (first s) (s .map ++ afterMap s) 0 10 15 refl ∙ getD-past (s .map) (afterMap s) 0 0 10 (omega (arith, z .directions))
 
-  -- past the head
-  rest : (k : ℕ) → getD (encode s) (16 + k) 0 ≡ getD (holdersOn s) k 0
-  unfolding encode
-  rest k =
-      getD-past (first s) (mapOn s) 0 (11 + k) (16 + k) (omega arith)
-      ∙ getD-past (s .map) (zeroOn s) 0 (1 + k) (11 + k) (omega (arith, z .directions)) ∙ getD-past (0 ∷ []) (holdersOn s) 0 k (1 + k) refl
+  pub encode-condition : (x : ℕ) → x < 1024 → getD (encode s) (conditionsAt + x) 0 ≡ getD (s .conditions) x 0
+  encode-condition x h =
+      ap (λ (r : List ℕ). getD r (conditionsAt + x) 0) (by-conditions s (s .conditions))
+      ∙ byte-between (toConditions s) (words (s .stars)) conditionsAt (to-conditions s z) (s .conditions) x (conditionsAt + x)
+      (omega (arith, z .conditions)) refl
 
-  pub encode-low : (x : ℕ) → x < 1024 → getD (encode s) (holdersAt + 2 * x) 0 ≡ getD (s .holders) x 0 % 256
-  encode-low x h =
-      rest (2 * x) ∙ List·getD-append (words (s .holders)) (s .conditions) 0 (2 * x) (omega (arith, z .holders, length-words (s .holders)))
-      ∙ low-at (s .holders) x (omega (arith, z .holders))
+  pub says-holders : Says (encode s) holdersAt (s .holders)
+  says-holders = between (head s) (afterHolders s) (to-holders s z) (z .holders) (by-holders s (s .holders))
 
-  pub encode-high : (x : ℕ) → x < 1024 → getD (encode s) (holdersAt + 2 * x + 1) 0 ≡ getD (s .holders) x 0 / 256
-  encode-high x h =
-      (let e : holdersAt + 2 * x + 1 ≡ 16 + (2 * x + 1) = omega arith in rw e (rest (2 * x + 1)))
-      ∙ List·getD-append (words (s .holders)) (s .conditions) 0 (2 * x + 1) (omega (arith, z .holders, length-words (s .holders)))
-      ∙ high-at (s .holders) x (omega (arith, z .holders))
-
-  pub encode-holder : (x : ℕ) → x < 1024 → word (encode s) (holdersAt + 2 * x) ≡ getD (s .holders) x 0
-  unfolding word
-  encode-holder x h = omega (arith, encode-low x h, encode-high x h)
-
-  pub encode-condition : (x : ℕ) → getD (encode s) (conditionsAt + x) 0 ≡ getD (s .conditions) x 0
-  encode-condition x =
-      (let e : conditionsAt + x ≡ 16 + (2048 + x) = omega arith in rw e (rest (2048 + x)))
-      ∙ getD-past (words (s .holders)) (s .conditions) 0 x (2048 + x) (omega (arith, z .holders, length-words (s .holders)))
+  pub says-stars : Says (encode s) starsAt (s .stars)
+  says-stars = between (toStars s) [] (to-stars s z) (z .stars) (by-stars s (s .stars))
 
   pub decode-encode : decode (encode s) ≡ s
   unfolding decode
@@ -103,8 +84,9 @@ module _ (s : State) (z : Sized s) where
       rw (
         encode-n,
         ← is-each (λ i. getD (encode s) (mapAt + i) 0) 10 (s .map) (z .directions) (λ i h. sym (encode-map i h)),
-        ← is-each (λ x. word (encode s) (holdersAt + 2 * x)) 1024 (s .holders) (z .holders) (λ x h. sym (encode-holder x h)),
-        ← is-each (λ x. getD (encode s) (conditionsAt + x) 0) 1024 (s .conditions) (z .conditions) (λ x h. sym (encode-condition x)),
+        ← is-each (λ x. word (encode s) (holdersAt + 2 * x)) 1024 (s .holders) (z .holders) (λ x h. sym (word-says says-holders x h)),
+        ← is-each (λ x. getD (encode s) (conditionsAt + x) 0) 1024 (s .conditions) (z .conditions) (λ x h. sym (encode-condition x h)),
+        ← is-each (λ x. word (encode s) (starsAt + 2 * x)) 1024 (s .stars) (z .stars) (λ x h. sym (word-says says-stars x h)),
       )
 
   pub head-encode : headRight (encode s) ≡ true
@@ -123,16 +105,17 @@ sized-decode r = record {
   directions = length-of (λ i. getD r (mapAt + i) 0) 0 10;
   holders = length-of (λ x. word r (holdersAt + 2 * x)) 0 1024;
   conditions = length-of (λ x. getD r (conditionsAt + x) 0) 0 1024;
+  stars = length-of (λ x. word r (starsAt + 2 * x)) 0 1024;
 }
 
 pub encoded-long : {r : List ℕ} → Encoded r → length r ≡ recordSize
 encoded-long {r} e = ap length (sym e) ∙ length-encode (decode r) (sized-decode r)
 
 -- the state made of what was read, part by part
-pub decode-parts : (r : List ℕ) (m : ℕ) (ds hs cs : List ℕ) → m ≡ decode r .n → ds ≡ decode r .map → hs ≡ decode r .holders
-    → cs ≡ decode r .conditions
-    → record { n = m; map = ds; holders = hs; conditions = cs } ≡ decode r
-decode-parts r m ds hs cs e d h c = rw (e, d, h, c)
+pub decode-parts : (r : List ℕ) (m : ℕ) (ds hs cs vs : List ℕ) → m ≡ decode r .n → ds ≡ decode r .map → hs ≡ decode r .holders
+    → cs ≡ decode r .conditions → vs ≡ decode r .stars
+    → record { n = m; map = ds; holders = hs; conditions = cs; stars = vs } ≡ decode r
+decode-parts r m ds hs cs vs e d h c v = rw (e, d, h, c, v)
 
 pub decode-map : (r : List ℕ) (i : ℕ) → i < 10 → getD (decode r .map) i 0 ≡ getD r (mapAt + i) 0
 unfolding decode
@@ -146,16 +129,20 @@ pub decode-condition : (r : List ℕ) (x : ℕ) → x < 1024 → getD (decode r 
 unfolding decode
 decode-condition r x h = getD-each (λ x. getD r (conditionsAt + x) 0) 0 1024 x h
 
+pub decode-star : (r : List ℕ) (x : ℕ) → x < 1024 → getD (decode r .stars) x 0 ≡ word r (starsAt + 2 * x)
+unfolding decode
+decode-star r x h = getD-each (λ x. word r (starsAt + 2 * x)) 0 1024 x h
+
 -- what a right head says
 pub record Head (r : List ℕ) : Type 0 where
   pub size : word r 0 ≡ recordSize
-  pub kind : word r 2 ≡ 1
+  pub kind : word r 2 ≡ recordKind
   pub zero-byte : getD r 15 0 ≡ 0
 
 pub head-says : (r : List ℕ) → headRight r ≡ true → Head r
 unfolding headRight
 head-says r e =
-    let h = means-and (means-eq (word r 0) recordSize) (means-and (means-eq (word r 2) 1) (means-eq (getD r 15 0) 0)) .holds e in
+    let h = means-and (means-eq (word r 0) recordSize) (means-and (means-eq (word r 2) recordKind) (means-eq (getD r 15 0) 0)) .holds e in
     record { size = h .0; kind = h .1 .0; zero-byte = h .1 .1 }
 
 -- what the whole test says
@@ -179,13 +166,13 @@ word-high : (r : List ℕ) (i : ℕ) → getD r i 0 < 256 → word r i / 256 ≡
 unfolding word
 word-high r i b = omega arith
 
--- a byte among the holders is the low or the high one of a holder
-pub each-holder : (P : ℕ → Type 0) (i : ℕ) → holdersAt ≤ i → i < conditionsAt
-    → ((x : ℕ) → x < 1024 → holdersAt + 2 * x ≤ i → i ≤ holdersAt + 2 * x + 1 → P (holdersAt + 2 * x) × P (holdersAt + 2 * x + 1)) → P i
-each-holder P i a b h =
-    let both = h ((i - 16) / 2) (omega arith) (omega arith) (omega arith) in
-    ⊎-elim (λ (e : (i - 16) % 2 < 1). subst P (omega arith) (both .0)) (λ (e : 1 ≤ (i - 16) % 2). subst P (omega arith) (both .1))
-    (lt-or ((i - 16) % 2) 1)
+-- a byte among the words from place at on is the low or the high one of a word
+pub each-word : (at : ℕ) (P : ℕ → Type 0) (i : ℕ) → at ≤ i → i < at + 2048
+    → ((x : ℕ) → x < 1024 → at + 2 * x ≤ i → i ≤ at + 2 * x + 1 → P (at + 2 * x) × P (at + 2 * x + 1)) → P i
+each-word at P i a b h =
+    let both = h ((i - at) / 2) (omega arith) (omega arith) (omega arith) in
+    ⊎-elim (λ (e : (i - at) % 2 < 1). subst P (omega arith) (both .0)) (λ (e : 1 ≤ (i - at) % 2). subst P (omega arith) (both .1))
+    (lt-or ((i - at) % 2) 1)
 
 -- a record's bytes with a right head
 module _ (r : List ℕ) (long : length r ≡ recordSize) (bytes : (i : ℕ) → getD r i 0 < 256) (right : headRight r ≡ true) where
@@ -210,26 +197,31 @@ module _ (r : List ℕ) (long : length r ≡ recordSize) (bytes : (i : ℕ) → 
   same-zero : Same 15
   same-zero = encode-zero (decode r) (sized-decode r) ∙ sym (said .zero-byte)
 
-  same-low : (x : ℕ) → x < 1024 → Same (holdersAt + 2 * x)
-  same-low x h =
-      encode-low (decode r) (sized-decode r) x h ∙ ap (λ (w : ℕ). w % 256) (decode-holder r x h)
-      ∙ word-low r (holdersAt + 2 * x) (bytes (holdersAt + 2 * x))
-
-  same-high : (x : ℕ) → x < 1024 → Same (holdersAt + 2 * x + 1)
-  same-high x h =
-      encode-high (decode r) (sized-decode r) x h ∙ ap (λ (w : ℕ). w / 256) (decode-holder r x h)
-      ∙ word-high r (holdersAt + 2 * x) (bytes (holdersAt + 2 * x))
+  same-words : (at : ℕ) (l : List ℕ) → Says (encode (decode r)) at l → ((x : ℕ) → x < 1024 → getD l x 0 ≡ word r (at + 2 * x))
+      → (i : ℕ) → at ≤ i → i < at + 2048 → Same i
+  same-words at l S d i a b = each-word at Same i a b (λ x h _ _. (
+    low-says S x h ∙ ap (λ (w : ℕ). w % 256) (d x h) ∙ word-low r (at + 2 * x) (bytes (at + 2 * x)),
+    high-says S x h ∙ ap (λ (w : ℕ). w / 256) (d x h) ∙ word-high r (at + 2 * x) (bytes (at + 2 * x)),
+  ))
 
   same-condition : (x : ℕ) → x < 1024 → Same (conditionsAt + x)
-  same-condition x h = encode-condition (decode r) (sized-decode r) x ∙ decode-condition r x h
+  same-condition x h = encode-condition (decode r) (sized-decode r) x h ∙ decode-condition r x h
+
+  same-holder : (i : ℕ) → holdersAt ≤ i → i < conditionsAt → Same i
+  same-holder = same-words holdersAt (decode r .holders) (says-holders (decode r) (sized-decode r)) (decode-holder r)
+
+  same-star : (i : ℕ) → starsAt ≤ i → i < recordSize → Same i
+  same-star = same-words starsAt (decode r .stars) (says-stars (decode r) (sized-decode r)) (decode-star r)
 
   same : (i : ℕ) → i < recordSize → Same i
   same i h =
       ⊎-elim (same-first i)
       (λ (a : 5 ≤ i). ⊎-elim (λ (b : i < 15). subst Same (omega arith) (same-map (i - 5) (omega arith)))
       (λ (b : 15 ≤ i). ⊎-elim (λ (d : i < 16). subst Same (omega arith) same-zero)
-      (λ (d : holdersAt ≤ i). ⊎-elim (λ (e : i < conditionsAt). each-holder Same i d e (λ x l _ _. (same-low x l, same-high x l)))
-      (λ (e : conditionsAt ≤ i). subst Same (omega arith) (same-condition (i - conditionsAt) (omega arith)))
+      (λ (d : holdersAt ≤ i). ⊎-elim (same-holder i d)
+      (λ (e : conditionsAt ≤ i). ⊎-elim (λ (g : i < starsAt). subst Same (omega arith) (same-condition (i - conditionsAt) (omega arith)))
+      (λ (g : starsAt ≤ i). same-star i g h)
+      (lt-or i starsAt))
       (lt-or i conditionsAt))
       (lt-or i 16))
       (lt-or i 15))

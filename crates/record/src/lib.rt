@@ -1,18 +1,21 @@
-// A record's bytes, and the state that they say (document 01, "Node and record").
+// A record's bytes, and the state that they say (document 01, "Node and record"; document 02, (f)).
 use state::State;
 ghost use mathlib.Core.Path.{_≡_};
+ghost use mathlib.Core.Bool.{cond};
 ghost use mathlib.Core.List.{map};
 ghost use Prim.Native.Nat.{_+_, _*_, _<_, _≤_};
+ghost use lib.Dec.{eqb};
 ghost use lib.ListN.{length, getD};
-ghost use Rattle.hypercube.specs.Lists.{from};
-ghost use Rattle.hypercube.specs.Words.{word};
-ghost use Rattle.state.specs.Valid.{nodesRight, valid};
-ghost use Rattle.record.specs.Layout.{holdersAt, conditionsAt, recordSize, encode, decode, headRight, validRecord};
-ghost use Rattle.record.specs.Stored.{Begun, Stored};
+ghost use Rattle.hypercube.specs.Lists.{from, allBelow};
+ghost use Rattle.hypercube.specs.Words.{word, words};
+ghost use Rattle.labels.specs.Flags.{EmptyFrom};
+ghost use Rattle.state.specs.Valid.{nodesRight, starsRight, valid};
+ghost use Rattle.record.specs.Layout.{holdersAt, conditionsAt, starsAt, recordSize, encode, decode, headRight, validRecord, starOf};
+ghost use Rattle.record.specs.Stored.{Begun, Stored, Laid};
 ghost use Rattle.record.specs.Highest.{highestOf, allZero};
 
-// The record's size, and the places of its parts. The conditions stand last.
-pub const SIZE: usize = 3088;
+// The record's size, and the places of its parts.
+pub const SIZE: usize = 5136;
 
 pub const MAP: usize = 5;
 
@@ -20,7 +23,7 @@ pub const HOLDERS: usize = 16;
 
 pub const CONDITIONS: usize = 2064;
 
-pub const CONDITIONS_END: usize = 3088;
+pub const STARS: usize = 3088;
 
 // The length field, and its two bytes.
 const LENGTH: u16 = SIZE as u16;
@@ -28,6 +31,11 @@ const LENGTH: u16 = SIZE as u16;
 const LENGTH_LOW: u8 = (SIZE % 256) as u8;
 
 const LENGTH_HIGH: u8 = (SIZE / 256) as u8;
+
+// The kind field, and its low byte; its high byte is 0.
+const KIND: u16 = 2;
+
+const KIND_LOW: u8 = KIND as u8;
 
 fn wide(b: u8) -> u16
     ensures { λ r. ⌜ (r ≡ b) × (r < 256) ⌝ }
@@ -71,21 +79,22 @@ pub fn load_map(bytes: &[u8]) -> [u8; 10]
     ensures { λ r. ⌜ r ≡ decode (now (bytes .entry)) .map ⌝ }
 {
     let mut map = [0; 10];
-    load_bytes(bytes, 5, &mut map);
+    load_bytes(bytes, MAP, &mut map);
     map
 }
 
-fn load_holders(bytes: &[u8]) -> [u16; 1024]
-    requires { ⌜ length (now bytes) ≡ recordSize ⌝ }
-    ensures { λ r. ⌜ r ≡ decode (now (bytes .entry)) .holders ⌝ }
+// The 1024 words from place `at` on.
+fn load_words(bytes: &[u8], at: usize) -> [u16; 1024]
+    requires { ⌜ at + 2048 ≤ length (now bytes) ⌝ }
+    ensures { λ r. ⌜ r ≡ map (λ x. word (now (bytes .entry)) (at + 2 * x)) (from 0 1024) ⌝ }
 {
-    let mut holders = [0; 1024];
+    let mut words = [0; 1024];
     let mut x = 0;
     while x < 1024 {
-        holders[x] = word(bytes, HOLDERS + 2 * x);
+        words[x] = word(bytes, at + 2 * x);
         x += 1;
     }
-    holders
+    words
 }
 
 fn load_conditions(bytes: &[u8]) -> [u8; 1024]
@@ -104,13 +113,15 @@ pub fn load(bytes: &[u8]) -> State
 {
     let n = dimension(bytes);
     let map = load_map(bytes);
-    let holders = load_holders(bytes);
+    let holders = load_words(bytes, HOLDERS);
     let conditions = load_conditions(bytes);
+    let stars = load_words(bytes, STARS);
     State {
         n,
         map,
         holders,
         conditions,
+        stars,
     }
 }
 
@@ -122,7 +133,7 @@ pub fn head_right(bytes: &[u8]) -> bool
     if word(bytes, 0) != LENGTH {
         return false;
     }
-    if word(bytes, 2) != 1 {
+    if word(bytes, 2) != KIND {
         return false;
     }
     bytes[15] == 0
@@ -166,11 +177,44 @@ fn nodes_right(bytes: &[u8], size: usize) -> bool
     if 2 < highest(&bytes[CONDITIONS..nodes]) {
         return false;
     }
-    if !all_zero(&bytes[nodes..CONDITIONS_END]) {
+    if !all_zero(&bytes[nodes..STARS]) {
         return false;
     }
     let held = HOLDERS + 2 * size;
     all_zero(&bytes[held..CONDITIONS])
+}
+
+// A node's star bits where it has no holder, else 0.
+fn stray(holder: u16, stars: u16) -> u16
+    ensures { λ r. ⌜ r ≡ cond (eqb holder 0) stars 0 ⌝ }
+{
+    if holder == 0 { stars } else { 0 }
+}
+
+// Whether every node below `size` that has star bits has a holder. The loop runs to its end, so that the compiler takes many nodes at a time.
+fn none_stray(bytes: &[u8], size: usize) -> bool
+    requires { ⌜ (length (now bytes) ≡ recordSize) × (size ≤ 1024) ⌝ }
+    ensures { λ r. ⌜ r ≡ allBelow (starOf (now (bytes .entry))) size ⌝ }
+{
+    let mut any: u16 = 0;
+    let mut x = 0;
+    while x < size {
+        any = any | stray(word(bytes, HOLDERS + 2 * x), word(bytes, STARS + 2 * x));
+        x += 1;
+    }
+    any == 0
+}
+
+// "refusal 1 also meets star bits at an unheld node"; none from `size` up is held.
+fn stars_right(bytes: &[u8], size: usize) -> bool
+    requires { ⌜ (length (now bytes) ≡ recordSize) × EmptyFrom (decode (now bytes) .holders) size ⌝ }
+    ensures { λ r. ⌜ r ≡ starsRight (decode (now (bytes .entry)) .holders) (decode (now (bytes .entry)) .stars) ⌝ }
+{
+    if !none_stray(bytes, size) {
+        return false;
+    }
+    let nodes = STARS + 2 * size;
+    all_zero(&bytes[nodes..SIZE])
 }
 
 // Whether the state that a record says is as "Node and record" has it; no more than the map is loaded.
@@ -186,7 +230,11 @@ fn state_right(bytes: &[u8]) -> bool
     if !state::map_right(&map, n) {
         return false;
     }
-    nodes_right(bytes, state::node_count(n))
+    let size = state::node_count(n);
+    if !nodes_right(bytes, size) {
+        return false;
+    }
+    stars_right(bytes, size)
 }
 
 // Refusal 1's whole test.
@@ -209,7 +257,7 @@ fn put_head(s: State, bytes: &mut [u8])
 {
     bytes[0] = LENGTH_LOW;
     bytes[1] = LENGTH_HIGH;
-    bytes[2] = 1;
+    bytes[2] = KIND_LOW;
     bytes[3] = 0;
     bytes[4] = s.n;
     let mut i = 0;
@@ -220,23 +268,24 @@ fn put_head(s: State, bytes: &mut [u8])
     bytes[15] = 0;
 }
 
-// The holders after them. The others stay.
-fn put_holders(s: State, bytes: &mut [u8])
-    requires { ⌜ Begun s holdersAt (now bytes) ⌝ }
-    ensures { λ _. ⌜ Stored s (now (bytes .entry)) conditionsAt (now (bytes .exit)) ⌝ }
+// The two bytes of each number, from place `at` on. The others stay.
+fn put_words(part: &[u16], at: usize, bytes: &mut [u8])
+    requires { ⌜ at + 2 * length (now part) ≤ length (now bytes) ⌝ }
+    ensures { λ _. ⌜ Laid (words (now (part .entry))) at (2 * length (now (part .entry))) (now (bytes .entry)) (now (bytes .exit)) ⌝ }
 {
     let mut x = 0;
-    while x < 1024 {
-        let h = s.holders[x];
-        bytes[HOLDERS + 2 * x] = (h % 256) as u8;
-        bytes[HOLDERS + 2 * x + 1] = (h / 256) as u8;
+    while x < part.len() {
+        let v = part[x];
+        bytes[at + 2 * x] = (v % 256) as u8;
+        bytes[at + 2 * x + 1] = (v / 256) as u8;
         x += 1;
     }
 }
 
+// The conditions after the holders.
 fn put_conditions(s: State, bytes: &mut [u8])
     requires { ⌜ Begun s conditionsAt (now bytes) ⌝ }
-    ensures { λ _. ⌜ now (bytes .exit) ≡ encode s ⌝ }
+    ensures { λ _. ⌜ Begun s starsAt (now (bytes .exit)) ⌝ }
 {
     let mut x = 0;
     while x < 1024 {
@@ -251,6 +300,7 @@ pub fn store(s: State, bytes: &mut [u8])
     ensures { λ _. ⌜ now (bytes .exit) ≡ encode s ⌝ }
 {
     put_head(s, bytes);
-    put_holders(s, bytes);
+    put_words(&s.holders, HOLDERS, bytes);
     put_conditions(s, bytes);
+    put_words(&s.stars, STARS, bytes);
 }

@@ -7,10 +7,11 @@ use Prim.Native.Nat.{ℕ, _<_, _≤_}
 use native.Mathlib.Nat.{lt-of-lt-of-le}
 use native.Mathlib.Omega.{arith}
 use borrow.Author.Tests.{leb-false, ltb-false, ne-eqb}
-use lib.Dec.{eqb, ltb, leb}
-use lib.ListN.{length, length-map}
+use lib.Dec.{ltb, leb}
+use lib.ListN.{length}
 use lib.Pow.{pow-mono}
 use Rattle.hypercube.specs.Replies.{numberOf}
+use Rattle.hypercube.specs.Labels.{node}
 use Rattle.hypercube.specs.Subcubes.{isFree}
 use Rattle.hypercube.specs.declared.Walk.{Walk}
 use Rattle.hypercube.specs.declared.Walk.the-variants.{Found, NoneFree}
@@ -18,7 +19,7 @@ use Rattle.hypercube.specs.declared.Reply.{Reply}
 use Rattle.hypercube.specs.declared.Reply.the-variants.{Refused}
 use Rattle.hypercube.proofs.Search.{first-in, none-found}
 use Rattle.history.specs.Calls.{Call, ask, kind, nodeField, job, dimension, strategy, Effect, sets, relabels, grants, releases, effect}
-use Rattle.history.specs.Account.{putAll, freeLabel, memberNodes, withCondition, withHolder}
+use Rattle.history.specs.Account.{History, freeLabel, memberNodes, withCondition, takeOver}
 use Rattle.history.specs.Causes.{asked, no-member-free}
 use Rattle.history.specs.Verdicts.{chosen, give, grant, accept, tell, stepBy, verdictBy}
 use Rattle.history.specs.Claims.{Accepted}
@@ -30,8 +31,8 @@ use Rattle.state.specs.States as states
 use Rattle.state.specs.Checks.{nodeCount}
 use Rattle.state.specs.Effects.{step, Sets, Relabels, Grants, Releases, effected, grantStep}
 use Rattle.state.specs.Acts.{refuse}
-use Rattle.state.proofs.Valid.{Sized, Valid}
-use Rattle.state.proofs.View.{view, entry-set, entry-cleared, entry-given}
+use Rattle.state.proofs.Valid.{Sized, lost-sized, Valid}
+use Rattle.state.proofs.View.{view, entry-set, view-lost, view-taken}
 
 -- a step on the state s is what the history says of the call c whose first cause is o
 pub record Does (s : State) (c : Call) (st : Step) (o : Option ℕ) : Type 0 where
@@ -63,7 +64,7 @@ module _ (s : State) (z : Sized s) (w : Valid s) (c : Call) where
 
   pub does-releases : effect (kind c) ≡ releases → Does s c (effected s (Releases (job c))) none
   unfolding tell accept
-  does-releases e = accepts releases e tt refl (ap (withHolder (view s)) (entry-cleared (s .holders) (job c)))
+  does-releases e = accepts releases e tt refl (view-lost s z (job c))
 
   -- by the walk's answer: what the call is told and does is the grant of that answer
   granted-or-none : effect (kind c) ≡ grants → dimension c ≤ s .n → (a : Walk) → chosen (s .n) (view s) (ask c) ≡ a
@@ -71,12 +72,12 @@ module _ (s : State) (z : Sized s) (w : Valid s) (c : Call) where
   unfolding tell accept
   granted-or-none e fits (Found m t) q =
       let g = granted-nodes (s .n) (view s) (ask c) m (w .small) (w .permutes) fits (first-in (chosen-first (s .n) (view s) (ask c) m t q)) in
-      let given = entry-given (states.cleared (s .holders) (job c)) (toldNodes (view s) m) (memberNodes (view s) m) (job c)
-      (length-map (s .holders) (λ (h : ℕ). cond (eqb h (job c)) 0 h) ∙ z .holders)
+      let stars : ℕ = node (s .map) (m .stars) in
+      let given = view-taken (states.lost s (job c)) (lost-sized z (job c)) (toldNodes (view s) m) (memberNodes (view s) m) (job c) stars
       (λ y. Iff·symm (g .same y)) (λ y i. lt-of-lt-of-le (g .below y i) (pow-mono (w .small))) in
-      let lost = ap (λ (f : ℕ → ℕ). putAll f (memberNodes (view s) m) (job c)) (entry-cleared (s .holders) (job c)) in
+      let lost = ap (λ (h : History). takeOver h (memberNodes (view s) m) (job c) stars) (view-lost s z (job c)) in
       accepts grants e tt (ap (grant (s .n) (view s) (job c)) (sym q))
-      (ap (withHolder (view s)) (given ∙ lost) ∙ ap (give (s .n) (view s) (job c)) (sym q))
+      (given ∙ lost ∙ ap (give (s .n) (view s) (job c)) (sym q))
   granted-or-none e fits (NoneFree t) q = record {
     told = ap (Refused 14) (none-found (isFree (freeLabel (view s) (ask c))) (asked (s .n) (ask c)) t q .0);
     stands = refl;

@@ -26,7 +26,7 @@ use Rattle.state.specs.declared.State.{State}
 use Rattle.state.specs.declared.Call.{Call}
 use Rattle.state.specs.declared.Step.{Step}
 use Rattle.hypercube.specs.declared.Reply.the-variants.{Granted, Refused, Done}
-use Rattle.state.specs.States.{withMap, withHolders, given, cleared}
+use Rattle.state.specs.States.{withMap, lost, taken}
 use Rattle.state.specs.Valid.{valid}
 use Rattle.state.specs.Checks.{nodeCount, holds, heldBy, anyHeld, fieldChecks, fieldCause}
 use Rattle.state.specs.Effects.{step, Relabels, effected, grantStep}
@@ -118,7 +118,7 @@ module _ (s : State) (j : ℕ) (w v : Walk) (a : w ≡ v) where
   -- ds is the map that the member was moved by
   pub grant-found : (c : Subcube) (t : ℕ) → w ≡ Found c t → {ds : List ℕ} → ds ≡ s .map → (low : Node) → low .0 ≡ node ds (c .low .0)
       → (stars : ℕ) → stars ≡ node ds (c .stars)
-      → step (withHolders s (given (cleared (s .holders) j) (vertices width stars (low .0)) j)) (Granted j low stars t) ≡ grantStep s j v
+      → step (taken (lost s j) (vertices width stars (low .0)) j stars) (Granted j low stars t) ≡ grantStep s j v
   grant-found c t e {ds} ed low el stars es =
       let at : low ≡ numbered (node ds (c .low .0)) = ap numbered el in
       rw (sym a ∙ e, at, es, ed)

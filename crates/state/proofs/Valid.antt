@@ -6,7 +6,7 @@ use mathlib.Core.Bool.{Bool, true, false, not, cond, _&&_, false≢true}
 use mathlib.Core.List.{List}
 use native.Mathlib.Omega.{arith}
 use native.Mathlib.Nat.{lt-of-lt-of-le}
-use borrow.Author.Tests.{lt-ltb, le-ltb, lt-leb, le-leb}
+use borrow.Author.Tests.{eqb-true, eqb-false, lt-ltb, le-ltb, lt-leb, le-leb}
 use lib.Dec.{eqb, ltb}
 use lib.ListN.{length, getD}
 use lib.Pow.{pow-mono}
@@ -14,17 +14,28 @@ use Rattle.hypercube.specs.Bits.{width}
 use Rattle.hypercube.specs.Labels.{Permutes}
 use Rattle.hypercube.proofs.Bits.{lt-or}
 use Rattle.hypercube.proofs.Below.{means-each}
-use Rattle.hypercube.specs.Tests.{Means, means-iff, means-eq, means-le, means-not, means-and}
+use Rattle.hypercube.proofs.Lists.{length-of}
+use Rattle.hypercube.specs.Tests.{cases, Means, means-iff, means-eq, means-le, means-not, means-and}
 use Rattle.labels.proofs.Directions.{Own}
 use Rattle.state.specs.declared.State.{State}
 pub use Rattle.state.specs.Valid.{Valid}
-use Rattle.state.specs.Valid.{entryRight, mapRight, nodeRight, nodesRight, valid}
+use Rattle.state.specs.States.{lost, taken}
+use Rattle.state.specs.Valid.{entryRight, mapRight, nodeRight, nodesRight, starRight, starsRight, valid}
 
 -- a state's arrays have their lengths, as the code's always do
 pub record Sized (s : State) : Type 0 where
   pub directions : length (s .map) ≡ 10
   pub holders : length (s .holders) ≡ 1024
   pub conditions : length (s .conditions) ≡ 1024
+  pub stars : length (s .stars) ≡ 1024
+
+-- a job's nodes lost, or nodes taken over: the lengths are the same
+module _ {s : State} (z : Sized s) where
+  pub lost-sized : (j : ℕ) → Sized (lost s j)
+  lost-sized j = record { directions = z .directions; holders = length-of _ 0 1024; conditions = z .conditions; stars = length-of _ 0 1024 }
+
+  pub taken-sized : (xs : List ℕ) (j v : ℕ) → Sized (taken s xs j v)
+  taken-sized xs j v = record { directions = z .directions; holders = length-of _ 0 1024; conditions = z .conditions; stars = length-of _ 0 1024 }
 
 -- a test that goes by whether x is below N
 means-either : (x N : ℕ) {a b : Bool} {P Q : Type 0} → Means a P → Means b Q
@@ -94,6 +105,21 @@ means-nodes hs cs N =
     means-each (nodeRight hs cs N) (OfNode hs cs N) 1024
     (λ x l. means-either x N (means-le (getD cs x 0) 2) (means-and (means-eq (getD hs x 0) 0) (means-eq (getD cs x 0) 0)))
 
+-- ---- the star bits
+
+pub means-star : (h v : ℕ) → Means (starRight h v) (h ≡ 0 → v ≡ 0)
+unfolding starRight
+means-star h v =
+    cases (eqb h 0)
+    (λ e. rw e (means-iff (means-eq v 0) (λ z o. z, λ f. f (eqb-true h 0 e))))
+    (λ e. rw e (record { holds = λ t z. absurd (eqb-false h 0 e z); shows = λ f. refl }))
+
+pub means-stars : (hs vs : List ℕ) → Means (starsRight hs vs) ((x : ℕ) → x < 1024 → getD hs x 0 ≡ 0 → getD vs x 0 ≡ 0)
+unfolding starsRight
+means-stars hs vs =
+    means-each (λ x. starRight (getD hs x 0) (getD vs x 0)) (λ x. getD hs x 0 ≡ 0 → getD vs x 0 ≡ 0) 1024
+    (λ x l. means-star (getD hs x 0) (getD vs x 0))
+
 -- ---- the state
 
 -- a second test that is read where the first holds
@@ -109,27 +135,33 @@ means-then {a} {b} {P} {Q} m k = record { holds = go a m; shows = back a m }
     back false m h = m .shows (h .0)
 
 abbrev Parts : State → Type 0
-Parts s = (s .n ≤ 10) × (Permutes (s .n) (s .map) × ((x : ℕ) → x < 1024 → OfNode (s .holders) (s .conditions) (2 ^ s .n) x))
+Parts s =
+    (s .n ≤ 10)
+    × (Permutes (s .n) (s .map)
+    × (((x : ℕ) → x < 1024 → OfNode (s .holders) (s .conditions) (2 ^ s .n) x)
+    × ((x : ℕ) → x < 1024 → getD (s .holders) x 0 ≡ 0 → getD (s .stars) x 0 ≡ 0)))
 
 pub means-valid : (s : State) → length (s .map) ≡ 10 → Means (valid s) (Valid s)
 unfolding valid
 means-valid s long =
     means-iff
     (means-then (means-le (s .n) 10)
-    (λ small. means-and (means-map (s .map) (s .n) small long) (means-nodes (s .holders) (s .conditions) (2 ^ s .n))))
+    (λ small. means-and (means-map (s .map) (s .n) small long)
+    (means-and (means-nodes (s .holders) (s .conditions) (2 ^ s .n)) (means-stars (s .holders) (s .stars)))))
     (together, apart)
   where
     together : Parts s → Valid s
     together h = record {
       small = h .0;
       permutes = h .1 .0;
-      conditions = λ x l. h .1 .1 x (lt-of-lt-of-le l (pow-mono (h .0))) .0 l;
-      no-conditions = λ x g l. h .1 .1 x l .1 g .1;
-      no-holders = λ x g l. h .1 .1 x l .1 g .0;
+      conditions = λ x l. h .1 .1 .0 x (lt-of-lt-of-le l (pow-mono (h .0))) .0 l;
+      no-conditions = λ x g l. h .1 .1 .0 x l .1 g .1;
+      no-holders = λ x g l. h .1 .1 .0 x l .1 g .0;
+      unstarred = h .1 .1 .1;
     }
 
     apart : Valid s → Parts s
-    apart v = (v .small, (v .permutes, λ x l. (v .conditions x, λ g. (v .no-holders x g l, v .no-conditions x g l))))
+    apart v = (v .small, (v .permutes, (λ x l. (v .conditions x, λ g. (v .no-holders x g l, v .no-conditions x g l)), v .unstarred)))
 
 -- ---- the test, part by part
 
@@ -143,6 +175,11 @@ module _ (s : State) where
     unfolding valid
     not-permuted e = rw (le-leb (s .n) 10 h, e)
 
-    pub by-nodes : mapRight (s .map) (s .n) ≡ true → nodesRight (s .holders) (s .conditions) (2 ^ s .n) ≡ valid s
-    unfolding valid
-    by-nodes e = rw (le-leb (s .n) 10 h, e)
+    module _ (e : mapRight (s .map) (s .n) ≡ true) where
+      pub not-nodes : nodesRight (s .holders) (s .conditions) (2 ^ s .n) ≡ false → false ≡ valid s
+      unfolding valid
+      not-nodes d = rw (le-leb (s .n) 10 h, e, d)
+
+      pub by-stars : nodesRight (s .holders) (s .conditions) (2 ^ s .n) ≡ true → starsRight (s .holders) (s .stars) ≡ valid s
+      unfolding valid
+      by-stars d = rw (le-leb (s .n) 10 h, e, d)

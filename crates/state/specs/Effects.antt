@@ -13,7 +13,7 @@ use Rattle.state.specs.declared.State.{State}
 use Rattle.hypercube.specs.declared.Reply.{Reply}
 use Rattle.hypercube.specs.declared.Reply.the-variants.{Granted, Refused, Done}
 use Rattle.state.specs.declared.Step.{Step}
-use Rattle.state.specs.States.{withCondition, withMap, withHolders, given, cleared}
+use Rattle.state.specs.States.{withCondition, withMap, lost, taken}
 use Rattle.state.specs.Checks.{heldBy}
 use Rattle.state.specs.Walked.{replyOf}
 
@@ -43,10 +43,10 @@ freeLabel s j l = freeNode s j (node (s .map) l)
 abbrev pub walkOf : State → ℕ → ℕ → ℕ → Walk
 walkOf s j k f = choice f (s .n) k (freeLabel s j)
 
--- a reply to a request or a growth, done to a state: where it is a grant, its job becomes the holder of each node of the subcube granted, "and loses
--- its nodes outside it"
+-- a reply to a request or a growth, done to a state: where it is a grant, its job "loses its nodes outside" the subcube granted and becomes the
+-- holder of each node of it, with the star bits replied
 abbrev pub granting : State → Reply → Step
-granting s (Granted j low stars t) = step (withHolders s (given (cleared (s .holders) j) (vertices width stars (low .0)) j)) (Granted j low stars t)
+granting s (Granted j low stars t) = step (taken (lost s j) (vertices width stars (low .0)) j stars) (Granted j low stars t)
 granting s (Refused m t) = step s (Refused m t)
 granting s (Done v) = step s (Done v)
 
@@ -59,4 +59,4 @@ effected s (Sets x v) = step (withCondition s x v) (Done (toldOf s x v))
 effected s Relabels =
     step (withMap s (relabelled (s .n) (notGood (s .conditions)))) (Done (size (differing (s .n) (notGood (s .conditions)))))
 effected s (Grants j k f) = grantStep s j (walkOf s j k f)
-effected s (Releases j) = step (withHolders s (cleared (s .holders) j)) (Done (heldBy s j))
+effected s (Releases j) = step (lost s j) (Done (heldBy s j))

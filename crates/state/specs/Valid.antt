@@ -1,8 +1,9 @@
 -- What refusal 1 tests of a state. Document 01, "Node and record": "Nodes from 2^n up have holder and condition 0; map entries above n are i itself,
--- the first n permute 1 to n. Refusal 1 tests this, n up to 10 and conditions up to 2; below 2^n any holders pass."
+-- the first n permute 1 to n. Refusal 1 tests this, n up to 10 and conditions up to 2; below 2^n any holders pass." Document 02, (f): "refusal 1 also
+-- meets star bits at an unheld node."
 use Prim.Native.Nat.{ℕ, _+_, _^_, _<_, _≤_}
 use mathlib.Core.Path.{_≡_}
-use mathlib.Core.Bool.{Bool, not, cond, _&&_}
+use mathlib.Core.Bool.{Bool, true, not, cond, _&&_}
 use mathlib.Core.List.{List}
 use lib.Dec.{eqb, ltb, leb}
 use lib.ListN.{getD}
@@ -28,8 +29,16 @@ nodeRight hs cs N x = cond (ltb x N) (leb (getD cs x 0) 2) (eqb (getD hs x 0) 0 
 unfoldable pub nodesRight : List ℕ → List ℕ → ℕ → Bool
 nodesRight hs cs N = allBelow (nodeRight hs cs N) 1024
 
+-- node x: it has star bits only where it has a holder; these may be any
+unfoldable pub starRight : ℕ → ℕ → Bool
+starRight h v = cond (eqb h 0) (eqb v 0) true
+
+unfoldable pub starsRight : List ℕ → List ℕ → Bool
+starsRight hs vs = allBelow (λ x. starRight (getD hs x 0) (getD vs x 0)) 1024
+
 unfoldable pub valid : State → Bool
-valid s = leb (s .n) 10 && (mapRight (s .map) (s .n) && nodesRight (s .holders) (s .conditions) (2 ^ s .n))
+valid s =
+    leb (s .n) 10 && (mapRight (s .map) (s .n) && (nodesRight (s .holders) (s .conditions) (2 ^ s .n) && starsRight (s .holders) (s .stars)))
 
 -- what that test finds of a state, as facts (the law means-valid)
 pub record Valid (s : State) : Type 0 where
@@ -38,3 +47,4 @@ pub record Valid (s : State) : Type 0 where
   pub conditions : (x : ℕ) → x < 2 ^ s .n → getD (s .conditions) x 0 ≤ 2
   pub no-conditions : (x : ℕ) → 2 ^ s .n ≤ x → x < 1024 → getD (s .conditions) x 0 ≡ 0
   pub no-holders : (x : ℕ) → 2 ^ s .n ≤ x → x < 1024 → getD (s .holders) x 0 ≡ 0
+  pub unstarred : (x : ℕ) → x < 1024 → getD (s .holders) x 0 ≡ 0 → getD (s .stars) x 0 ≡ 0

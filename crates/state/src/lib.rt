@@ -11,12 +11,14 @@ ghost use Rattle.state.specs.States.{freshState};
 ghost use Rattle.state.specs.Valid.{entryRight, mapRight};
 ghost use Rattle.hypercube.specs.Replies.{numberOf};
 
-// A cube: its dimension, the map, and the holder and the condition of each of 1024 nodes (document 01, "Node and record").
+// A cube: its dimension, the map, and the holder and the condition of each of 1024 nodes (document 01, "Node and record"), with the star bits of the
+// grant that holds it (document 02, (f)).
 pub struct State {
     pub n: u8,
     pub map: [u8; 10],
     pub holders: [u16; 1024],
     pub conditions: [u8; 1024],
+    pub stars: [u16; 1024],
 }
 
 // The calls (document 01, "Six calls and their frames"; a growth by document 02, (e)).
@@ -107,6 +109,7 @@ impl State {
             map: [1, 2, 3, 4, 5, 6, 7, 8, 9, 10],
             holders: [0; 1024],
             conditions: [0; 1024],
+            stars: [0; 1024],
         }
     }
 }

@@ -2,19 +2,14 @@
 use Prim.Native.Nat.{ℕ, _≤_}
 use mathlib.Core.Logic.{_≢_}
 use mathlib.Core.Path.{_≡_, refl, _∙_}
-use mathlib.Core.Bool.{cond}
 use mathlib.Core.List.{List, [], _∷_}
 use borrow.Author.Tests.{eqb-false}
 use lib.Dec.{eqb}
-use lib.ListN.{length, getD, length-set, length-map}
+use lib.ListN.{length-set}
 use Rattle.hypercube.specs.Replies.{numberOf}
 use Rattle.hypercube.specs.Bits.{width}
-use Rattle.hypercube.specs.Lists.{among}
-use Rattle.hypercube.specs.Labels.{node}
-use Rattle.hypercube.specs.Subcubes.{vertices}
 use Rattle.hypercube.specs.declared.Walk.{Walk}
 use Rattle.hypercube.specs.declared.Walk.the-variants.{Found, NoneFree}
-use Rattle.hypercube.proofs.Lists.{length-of}
 use Rattle.hypercube.specs.Tests.{cases}
 use Rattle.hypercube.specs.Checks.{Check}
 use Rattle.hypercube.proofs.Relabels.{relabel-permutes}
@@ -23,10 +18,10 @@ use Rattle.state.specs.declared.State.{State}
 use Rattle.state.specs.declared.Call.{Call}
 use Rattle.hypercube.specs.declared.Reply.{Reply}
 use Rattle.state.specs.declared.Step.{Step}
-use Rattle.state.specs.States.{withCondition, withHolders, cleared}
+use Rattle.state.specs.States.{withCondition}
 use Rattle.state.specs.Effects.{step, Effect, Sets, Relabels, Grants, Releases, walkOf, grantStep, effected}
 use Rattle.state.specs.Acts.{checksOf, effectOf, guarded, acted}
-use Rattle.state.proofs.Valid.{Sized}
+use Rattle.state.proofs.Valid.{Sized, lost-sized, taken-sized}
 use Rattle.record.specs.Layout.{encode}
 use Rattle.steps.specs.Carried.{stored}
 
@@ -42,22 +37,18 @@ module _ (s : State) (z : Sized s) where
 
   kept-condition : (x v : ℕ) (r : Reply) → numberOf r ≡ 0 → Kept s (step (withCondition s x v) r)
   kept-condition x v r e = record {
-    sized = record { directions = z .directions; holders = z .holders; conditions = length-set (s .conditions) x v ∙ z .conditions };
-    same-n = refl;
-    left = λ p. absurd (p e);
-  }
-
-  kept-holders : (hs : List ℕ) → length hs ≡ 1024 → (r : Reply) → numberOf r ≡ 0 → Kept s (step (withHolders s hs) r)
-  kept-holders hs l r e = record {
-    sized = record { directions = z .directions; holders = l; conditions = z .conditions };
+    sized = record {
+      directions = z .directions;
+      holders = z .holders;
+      conditions = length-set (s .conditions) x v ∙ z .conditions;
+      stars = z .stars;
+    };
     same-n = refl;
     left = λ p. absurd (p e);
   }
 
   kept-grant : (j : ℕ) (w : Walk) → Kept s (grantStep s j w)
-  kept-grant j (Found c t) =
-      let xs = vertices width (node (s .map) (c .stars)) (node (s .map) (c .low .0)) in
-      kept-holders _ (length-of (λ x. cond (among x xs) j (getD (cleared (s .holders) j) x 0)) 0 1024) _ refl
+  kept-grant j (Found c t) = record { sized = taken-sized (lost-sized z j) _ j _; same-n = refl; left = λ p. absurd (p refl) }
   kept-grant j (NoneFree t) = kept-all _
 
   -- what a call does that no check stops
@@ -68,13 +59,13 @@ module _ (s : State) (z : Sized s) where
       directions = relabel-permutes (s .n) small (notGood (s .conditions)) .entries;
       holders = z .holders;
       conditions = z .conditions;
+      stars = z .stars;
     };
     same-n = refl;
     left = λ p. absurd (p refl);
   }
   kept-effect small (Grants j k f) = kept-grant j (walkOf s j k f)
-  kept-effect small (Releases j) =
-      kept-holders (cleared (s .holders) j) (length-map (s .holders) (λ (h : ℕ). cond (eqb h j) 0 h) ∙ z .holders) _ refl
+  kept-effect small (Releases j) = record { sized = lost-sized z j; same-n = refl; left = λ p. absurd (p refl) }
 
   -- a check that stops it keeps all
   kept-guarded : (ks : List Check) {t : Step} → Kept s t → Kept s (guarded s ks t)

@@ -19,7 +19,7 @@ use Rattle.history.specs.Account.{fresh}
 use Rattle.history.specs.Causes.{causes}
 use Rattle.history.specs.Verdicts.{cause, accept, tell, step, verdict, verdicts}
 use Rattle.history.specs.Held.{Held, without, held}
-use Rattle.state.specs.declared.Call.the-variants.{Good, Relabel, Request, Grow}
+use Rattle.state.specs.declared.Call.the-variants.{Good, Relabel, Request, Release, Grow}
 use Rattle.state.specs.Acts.{callOf}
 use Rattle.frames.specs.declared.Parsed.the-variants.{Known}
 use Rattle.frames.specs.Parse.{sized, parsed}
@@ -38,6 +38,13 @@ asks j = exchange (8 ∷ 0 ∷ 0x01 ∷ 0x02 ∷ j ∷ 0 ∷ 0 ∷ 0 ∷ [])
 
 abbrev pub relabels : Exchange
 relabels = exchange (4 ∷ 0 ∷ 0x03 ∷ 0x02 ∷ [])
+
+-- job 1 asks for two nodes, by buddy; it releases what it holds
+abbrev pub pair : Exchange
+pair = exchange (8 ∷ 0 ∷ 0x01 ∷ 0x02 ∷ 1 ∷ 0 ∷ 1 ∷ 0 ∷ [])
+
+abbrev pub gives-back : Exchange
+gives-back = exchange (6 ∷ 0 ∷ 0x02 ∷ 0x02 ∷ 1 ∷ 0 ∷ [])
 
 -- job 1 grows to two nodes, by buddy
 abbrev pub grows : Exchange
@@ -74,6 +81,14 @@ pub parsed-relabel : parsed (relabels .frame) ≡ Known Relabel
 unfolding parsed callOf sized word kindOf
 parsed-relabel = refl
 
+pub parsed-pair : parsed (pair .frame) ≡ Known (Request 1 1 0)
+unfolding parsed callOf sized word kindOf
+parsed-pair = refl
+
+pub parsed-release : parsed (gives-back .frame) ≡ Known (Release 1)
+unfolding parsed callOf sized word kindOf
+parsed-release = refl
+
 pub parsed-grow : parsed (grows .frame) ≡ Known (Grow 1 1 0)
 unfolding parsed callOf sized word kindOf
 parsed-grow = refl
@@ -88,7 +103,8 @@ requests = inl refl
 
 -- what the history says: a silent node is not granted; a good one is, and is held; of two the second is the second tried; two silent nodes differ in
 -- a direction, and where one of them is good none do; by two silent nodes across direction 2 direction 1 moves to 2; a job that grows loses its
--- node outside the member; two jobs hold a node each
+-- node outside the member; two jobs hold a node each; a job has two nodes with
+-- star bits 1, and gives both back
 pub record Told : Type 0 where
   pub silent : verdict 0 (historyAt 0 begin) (fed (asks 1)) ≡ Refused 14 1
   pub one-granted : verdict 0 (historyAt 0 one) (fed (asks 1)) ≡ granted 1 0 0 1
@@ -111,6 +127,11 @@ pub record Told : Type 0 where
   pub outside-lost : historyAt 2 (outside next grows) .holder 2 ≡ 0
   pub both-good : (historyAt 1 shared .condition 0 ≡ 1) × (historyAt 1 shared .condition 1 ≡ 1)
   pub both-held : (historyAt 1 shared .holder 0 ≡ 1) × (historyAt 1 shared .holder 1 ≡ 2)
+  pub pair-granted : verdict 1 (historyAt 1 two) (fed pair) ≡ granted 1 0 1 1
+  pub none-starred : historyAt 1 two .stars 1 ≡ 0
+  pub pair-held : historyAt 1 (two next pair) .holder 0 ≡ 1
+  pub pair-starred : historyAt 1 (two next pair) .stars 0 ≡ 1
+  pub pair-released : verdict 1 (historyAt 1 (two next pair)) (fed gives-back) ≡ Done 2
   pub shared-held : held (verdicts 1 fresh) [] (feed shared) ≡ alone 2 1 (feed (two next asks 1)) ∷ alone 1 0 (feed two) ∷ []
 
 pub told : Told
@@ -137,5 +158,10 @@ told = record {
   outside-lost = refl;
   both-good = (refl, refl);
   both-held = (refl, refl);
+  pair-granted = refl;
+  none-starred = refl;
+  pair-held = refl;
+  pair-starred = refl;
+  pair-released = refl;
   shared-held = refl;
 }

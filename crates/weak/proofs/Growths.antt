@@ -27,7 +27,7 @@ use Rattle.state.specs.Acts.{guarded, acted}
 use Rattle.state.specs.Valid.{Valid}
 use Rattle.state.proofs.Valid.{Sized}
 use Rattle.record.specs.Layout.{holdersAt, recordSize, decode}
-use Rattle.record.proofs.Round.{decode-holder, decode-condition, encode-holder, sized-decode}
+use Rattle.record.proofs.Round.{decode-holder, decode-condition, word-says, says-holders, sized-decode}
 use Rattle.steps.proofs.Ways.{state-valid}
 use Rattle.frames.specs.declared.Parsed.the-variants.{Known}
 use Rattle.frames.specs.Parse.{parsed}
@@ -48,7 +48,8 @@ use Rattle.weak.proofs.Made.{same-call, same-returned, same-reply, numb
 
 -- the old nodes held: the arrays have their sizes, and a grant of nodes 0 and 1 leaves node 2's holder
 sized-keeping : (s : State) → Sized s → (a : Reply) → Sized (keeping s a)
-sized-keeping s z (Granted j low stars t) = record { directions = z .directions; holders = length-of _ 0 1024; conditions = z .conditions }
+sized-keeping s z (Granted j low stars t) =
+    record { directions = z .directions; holders = length-of _ 0 1024; conditions = z .conditions; stars = length-of _ 0 1024 }
 sized-keeping s z (Refused m t) = z
 sized-keeping s z (Done v) = z
 
@@ -146,7 +147,7 @@ module _ (b : List ℕ) (whole : length b ≡ recordSize) where
   still-held =
       let before = four-nodes .list .recorded outside in
       ap (λ (r : List ℕ). word r (holdersAt + 2 * 2)) (record-is (growing oldKept) r grows (Grow 1 1 0) parsed-grow (before .valid) refl accepted)
-      ∙ encode-holder (keeping (decode r) answer) (sized-keeping (decode r) (sized-decode r) answer) 2 (omega arith)
+      ∙ word-says (says-holders (keeping (decode r) answer) (sized-keeping (decode r) (sized-decode r) answer)) 2 (omega arith)
       ∙ kept-holder (decode r) answer (grows .buffer) answered
       ∙ decode-holder r 2 (omega arith) ∙ before .holders 2 (omega arith) ∙ told .outside-held
 

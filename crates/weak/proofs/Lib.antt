@@ -6,3 +6,4 @@ pub mod Holding
 pub mod Refuted
 pub mod Relabels
 pub mod Growths
+pub mod Stars

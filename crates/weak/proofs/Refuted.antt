@@ -16,7 +16,8 @@ use Rattle.hypercube.specs.Words.{word, words}
 use Rattle.hypercube.specs.declared.Reply.{Reply}
 use Rattle.hypercube.specs.declared.Reply.the-variants.{Granted, Refused, Done}
 use Rattle.hypercube.specs.Replies.{granted, frameOf, written, numberOf, replies, heard}
-use Rattle.hypercube.proofs.Lists.{length-of, getD-each}
+use Rattle.hypercube.specs.Tests.{cases}
+use Rattle.hypercube.proofs.Lists.{getD-each}
 use Rattle.history.specs.Calls.{Call, strategy, dimension}
 use Rattle.history.specs.Account.{History}
 use Rattle.history.specs.Causes.{Row, NoneMet, earlier, last, causes}
@@ -24,12 +25,12 @@ use Rattle.history.specs.Held.{without}
 use Rattle.history.proofs.Passed.{passed}
 use Rattle.state.specs.declared.State.{State}
 use Rattle.state.specs.declared.Call.the-variants.{Good, Request}
-use Rattle.state.specs.States.{withHolders, given}
+use Rattle.state.specs.States.{given, taken}
 use Rattle.state.specs.Valid.{Valid}
 use Rattle.state.specs.Checks.{anyHeld}
-use Rattle.state.proofs.Valid.{Sized, means-valid}
+use Rattle.state.proofs.Valid.{Sized, taken-sized, means-valid}
 use Rattle.record.specs.Layout.{holdersAt, recordSize, encode, decode, validRecord}
-use Rattle.record.proofs.Round.{decode-holder, sized-decode, encode-holder, valid-encode}
+use Rattle.record.proofs.Round.{decode-holder, sized-decode, word-says, says-holders, valid-encode}
 use Rattle.cube.specs.Called.{setupRecord, delivered}
 use Rattle.cube.specs.Run.{Exchanges, begin, _next_, fed, recordAfter, number, reply, historyAt}
 use Rattle.cube.specs.Demand3.{Demand3}
@@ -59,22 +60,24 @@ unfolding among vertices
 elsewhere x h = rw (ne-eqb x 0 (λ z. absurd (omega arith)))
 
 -- a state with node 0 given to a job
-stays-valid : (s : State) → Sized s → Valid s → (j : ℕ) → validRecord (encode (withHolders s (given (s .holders) (vertices width 0 0) j))) ≡ true
+stays-valid : (s : State) → Sized s → Valid s → (j : ℕ) → validRecord (encode (taken s (vertices width 0 0) j 0)) ≡ true
 stays-valid s z v j =
-    valid-encode t sized ∙ means-valid t (z .directions) .shows record {
+    valid-encode t (taken-sized z (vertices width 0 0) j 0) ∙ means-valid t (z .directions) .shows record {
       small = v .small;
       permutes = v .permutes;
       conditions = v .conditions;
       no-conditions = v .no-conditions;
-      no-holders = λ x h l.
-          getD-each (λ x. cond (among x (vertices width 0 0)) j (getD (s .holders) x 0)) 0 1024 x l ∙ other x h ∙ v .no-holders x h l;
+      no-holders = λ x h l. entry (s .holders) j x l ∙ other x h ∙ v .no-holders x h l;
+      unstarred = λ x l e.
+          entry (s .stars) 0 x l
+          ∙ cases (among x (vertices width 0 0)) (λ b. rw b) (λ b. rw b (v .unstarred x l (rw b at (sym (entry (s .holders) j x l) ∙ e))));
     }
   where
     t : State
-    t = withHolders s (given (s .holders) (vertices width 0 0) j)
+    t = taken s (vertices width 0 0) j 0
 
-    sized : Sized t
-    sized = record { directions = z .directions; holders = length-of _ 0 1024; conditions = z .conditions }
+    entry : (l : List ℕ) (v x : ℕ) → x < 1024 → getD (given l (vertices width 0 0) v) x 0 ≡ cond (among x (vertices width 0 0)) v (getD l x 0)
+    entry l v x h = getD-each (λ x. cond (among x (vertices width 0 0)) v (getD l x 0)) 0 1024 x h
 
     other : (x : ℕ) → 2 ^ s .n ≤ x → cond (among x (vertices width 0 0)) j (getD (s .holders) x 0) ≡ getD (s .holders) x 0
     other x h = rw (elsewhere x (lt-of-lt-of-le (pow-pos (s .n)) h))
@@ -178,7 +181,7 @@ module _ (b : List ℕ) (whole : length b ≡ recordSize) where
 
   -- a record that is stored as it was has the holders that it had
   kept : (r : List ℕ) (x : ℕ) → x < 1024 → word (encode (decode r)) (holdersAt + 2 * x) ≡ word r (holdersAt + 2 * x)
-  kept r x h = encode-holder (decode r) (sized-decode r) x h ∙ decode-holder r x h
+  kept r x h = word-says (says-holders (decode r) (sized-decode r)) x h ∙ decode-holder r x h
 
   record-wrong : ¬ HoldersRight (byRequests unrecorded) 0 b
   record-wrong claim =

@@ -21,6 +21,7 @@ use Rattle.state.specs.States.{withMap}
 use Rattle.state.specs.Checks.{anyHeld}
 use Rattle.state.specs.Acts.{guarded}
 use Rattle.record.specs.Layout.{recordSize, mapAt, decode}
+use Rattle.state.proofs.Valid.{Sized}
 use Rattle.record.proofs.Round.{decode-holder, decode-condition, encode-map, sized-decode}
 use Rattle.cube.specs.Called.{setupRecord, delivered}
 use Rattle.cube.specs.Run.{Exchanges, begin, _next_, fed, recordAfter, historyAt}
@@ -79,8 +80,14 @@ module _ (b : List ℕ) (whole : length b ≡ recordSize) where
         let stored = record-is (relabelling mapped sized) r relabels Relabel parsed-relabel (kept .list .recorded es .valid) refl (rw none refl) in
         let map = relabelled (decode r .n) (mapped (decode r .conditions)) in
         let long = relabel-permutes n small (mapped (decode r .conditions)) .entries in
+        let moved-sized : Sized (withMap (decode r) map) = record {
+          directions = rw dimension long;
+          holders = z .holders;
+          conditions = z .conditions;
+          stars = z .stars;
+        } in
         rw same (rw (stored, none)
-        (encode-map (withMap (decode r) map) (record { directions = rw dimension long; holders = z .holders; conditions = z .conditions }) i h
+        (encode-map (withMap (decode r) map) (moved-sized) i h
         ∙ (rw dimension refl)))
 
   faulty-wrong : ¬ ReplyRight (by (relabelling faultyOnly faultyOnly)) 1 b

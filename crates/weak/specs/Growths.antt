@@ -8,18 +8,18 @@ use Rattle.hypercube.specs.declared.Reply.{Reply}
 use Rattle.hypercube.specs.declared.Reply.the-variants.{Granted, Refused, Done}
 use Rattle.state.specs.declared.State.{State}
 use Rattle.state.specs.declared.Call.the-variants.{Grow}
-use Rattle.state.specs.States.{withHolders, given}
+use Rattle.state.specs.States.{withHolders, taken}
 use Rattle.state.specs.Effects.{step, walkOf, grantStep}
 use Rattle.state.specs.Acts.{checksOf, guarded}
-use Rattle.weak.specs.Programs.{Acts, by, Asks, relabelStep, requestStep, growStep, doing}
+use Rattle.weak.specs.Programs.{Acts, by, Asks, relabelStep, requestStep, growStep, releaseStep, doing}
 use Rattle.weak.specs.Parts.{HeldDisjoint, HoldersRight, Breaks}
 
 abbrev pub growing : Asks → Acts
-growing g = doing relabelStep requestStep g
+growing g = doing relabelStep requestStep g releaseStep
 
 -- one that leaves the old nodes held: the job is given the nodes granted and keeps its others; the reply is the delivered program's
 abbrev pub keeping : State → Reply → State
-keeping s (Granted j low stars t) = withHolders s (given (s .holders) (vertices width stars (low .0)) j)
+keeping s (Granted j low stars t) = taken s (vertices width stars (low .0)) j stars
 keeping s (Refused m t) = s
 keeping s (Done v) = s
 

@@ -1,5 +1,6 @@
--- The six worthless programs of document 01, and the part of the demands that each breaks; of document 02 three more, (b), and two, (e).
+-- The six worthless programs of document 01, and the part of the demands that each breaks; of document 02 three more, (b), and two each, (e) and (f).
 pub mod Programs
 pub mod Parts
 pub mod Relabels
 pub mod Growths
+pub mod Stars

@@ -14,7 +14,7 @@ use Rattle.state.specs.declared.State.{State}
 use Rattle.state.specs.declared.Call.{Call}
 use Rattle.state.specs.declared.Call.the-variants.{Good, Fault, Repaired, Relabel, Request, Release, Grow}
 use Rattle.state.specs.declared.Step.{Step}
-use Rattle.state.specs.States.{withHolders, given}
+use Rattle.state.specs.States.{taken}
 use Rattle.state.specs.Checks.{anyHeld}
 use Rattle.state.specs.Effects.{step}
 use Rattle.state.specs.Acts.{refuse, acted}
@@ -59,18 +59,25 @@ requestStep s j k f = acted s (Request j k f)
 abbrev pub growStep : Asks
 growStep s j k f = acted s (Grow j k f)
 
--- the program that does these on a relabel, a request and a growth, and is otherwise the delivered one
-abbrev pub doing : (State → Step) → Asks → Asks → Acts
-doing l q g s (Good x) = acted s (Good x)
-doing l q g s (Fault x) = acted s (Fault x)
-doing l q g s (Repaired x) = acted s (Repaired x)
-doing l q g s Relabel = l s
-doing l q g s (Request j k f) = q s j k f
-doing l q g s (Release j) = acted s (Release j)
-doing l q g s (Grow j k f) = g s j k f
+-- what a release by job j does to a state
+abbrev pub Releases : Type 0
+Releases = State → ℕ → Step
+
+abbrev pub releaseStep : Releases
+releaseStep s j = acted s (Release j)
+
+-- the program that does these on a relabel, a request, a growth and a release, and is otherwise the delivered one
+abbrev pub doing : (State → Step) → Asks → Asks → Releases → Acts
+doing l q g e s (Good x) = acted s (Good x)
+doing l q g e s (Fault x) = acted s (Fault x)
+doing l q g e s (Repaired x) = acted s (Repaired x)
+doing l q g e s Relabel = l s
+doing l q g e s (Request j k f) = q s j k f
+doing l q g e s (Release j) = e s j
+doing l q g e s (Grow j k f) = g s j k f
 
 abbrev pub requesting : Asks → Acts
-requesting q = doing relabelStep q growStep
+requesting q = doing relabelStep q growStep releaseStep
 
 abbrev pub byRequests : Asks → Program
 byRequests q = by (requesting q)
@@ -87,7 +94,7 @@ unstarted s j k f = step s (Refused 14 0)
 abbrev pub lowest : Asks
 lowest s j k f =
     let stars = 2 ^ k - 1 in
-    step (withHolders s (given (s .holders) (vertices width stars 0) j)) (granted j 0 stars 1)
+    step (taken s (vertices width stars 0) j stars) (granted j 0 stars 1)
 
 -- "replies 'granted', record unchanged"
 abbrev pub unrecorded : Asks

@@ -17,7 +17,7 @@ use Rattle.state.specs.Acts.{checksOf, guarded}
 use Rattle.record.specs.Layout.{mapAt}
 use Rattle.cube.specs.Called.{Program}
 use Rattle.cube.specs.Run.{Exchanges, recordAfter, historyAt}
-use Rattle.weak.specs.Programs.{Acts, by, requestStep, growStep, doing}
+use Rattle.weak.specs.Programs.{Acts, by, requestStep, growStep, releaseStep, doing}
 use Rattle.weak.specs.Parts.{ReplyRight, Breaks}
 
 -- a test of the conditions: which nodes D is taken over
@@ -31,7 +31,7 @@ relabelOver mapped sized s =
     (step (withMap s (relabelled (s .n) (mapped (s .conditions)))) (Done (size (differing (s .n) (sized (s .conditions))))))
 
 abbrev pub relabelling : Over → Over → Acts
-relabelling mapped sized = doing (relabelOver mapped sized) requestStep growStep
+relabelling mapped sized = doing (relabelOver mapped sized) requestStep growStep releaseStep
 
 -- those reported faulty
 abbrev pub faultyOnly : Over

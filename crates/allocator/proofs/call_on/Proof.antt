@@ -9,7 +9,7 @@ use Rattle.allocator.proofs.call_on.Tie as tie
 
 -- the state's arrays have their lengths
 sized : (c : tie.Start) → Sized (c .args .s)
-sized c = record { directions = search needs; holders = search needs; conditions = search needs }
+sized c = record { directions = search needs; holders = search needs; conditions = search needs; stars = search needs }
 
 slice-aggregate-store : tie.Need-slice-aggregate-store
 slice-aggregate-store c = search needs

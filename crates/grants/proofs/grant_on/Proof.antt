@@ -7,7 +7,7 @@ use Rattle.state.proofs.Steps.{grant-14, grant-found}
 use Rattle.steps.proofs.Ways.{state-valid, whole, told-only, accepts}
 use Rattle.grants.proofs.Read.{map-directions}
 use Rattle.grants.proofs.Grants.{lowest-of}
-use Rattle.grants.proofs.Lost.{lost-whole, lost-given}
+use Rattle.grants.proofs.Lost.{lost-whole, lost-taken}
 use Rattle.record.proofs.Round.{sized-decode}
 use Rattle.grants.proofs.grant_on.Statement.{statement}
 use Rattle.grants.proofs.grant_on.Tie as tie
@@ -82,7 +82,7 @@ returns-2 c =
     accepts _ _ _ refl
     (grant-found _ _ _ _ (walk .walk-of .ensures) _ _ (told .walk .given .1)
     (load .load-map .ensures) _ (low .node-of .ensures) _ (stars .stars-of .ensures))
-    (lost-given _ (sized-decode _) _ (lost .lose .ensures) _ (gave .give .ensures))
+    (lost-taken _ (sized-decode _) _ (lost .lose .ensures) _ _ (gave .give .ensures))
 
 pub grant-on-spec : {M : Type 1} → statement M
 grant-on-spec =

@@ -1,149 +1,42 @@
--- `nodes::give` meets its contract. The loop's invariant: the nodes passed have their holders. Assumes nothing.
-use Prim.Native.Nat.{ℕ, _+_, _-_, _<_, _≤_}
-use mathlib.Core.Logic.{_≢_}
-use mathlib.Core.Path.{_≡_, sym, ap, _∙_}
-use mathlib.Core.Bool.{Bool, cond}
-use mathlib.Core.List.{List, map}
+-- `nodes::give` meets its contract: the holders first, then the star bits. Assumes nothing.
+use Prim.Native.Nat.{ℕ}
+use mathlib.Core.Path.{_≡_, refl, ap, _∙_}
+use mathlib.Core.Logic.{inl, inr}
+use mathlib.Core.List.{List}
+use borrow.Author.Needs.{needs}
 use native.Mathlib.Omega.{arith}
-use borrow.Author.Tests.{ne-eqb}
-use lib.Bits.{bitAnd, and-le-r}
-use lib.Dec.{eqb}
-use lib.ListN.{getD}
 use Rattle.hypercube.specs.Bits.{width}
-use Rattle.hypercube.specs.Lists.{from, among}
 use Rattle.hypercube.specs.Subcubes.{vertices}
-use Rattle.hypercube.proofs.Lists.{length-of, getD-each}
-use Rattle.record.specs.Layout.{decode}
-use Rattle.nodes.specs.Holders.{LowestOf}
-use Rattle.record.proofs.Round.{encode-decode, sized-decode, encoded-long}
-use Rattle.nodes.proofs.Among.{among-sum, top-below}
-use Rattle.nodes.proofs.Sweeps.{Sweeping, the-holders, sweeping-none, sweeping-encoded, sweeping-put, sweeping-all, holder-next}
+use Rattle.hypercube.proofs.Lists.{length-of}
+use Rattle.state.specs.declared.State.{State}
+use Rattle.state.specs.States.{withStars, withHolders, given}
+use Rattle.record.specs.Layout.{holdersAt, encode, decode}
+use Rattle.record.proofs.Round.{encode-decode, sized-decode}
+use Rattle.nodes.proofs.Parts.{decode-words, words-encoded}
 use Rattle.nodes.proofs.give.Statement.{statement}
 use Rattle.nodes.proofs.give.Tie as tie
 
--- node k's holder after the call
-abbrev holder : List ℕ → ℕ → ℕ → ℕ → ℕ → ℕ
-holder hs s b j k = cond (among k (vertices width s b)) j (getD hs k 0)
+give-words-requires : tie.Need-give-words-requires
+give-words-requires c κs =
+    let start = c .before .before in
+    ((encode-decode _ (start .pre .0 .0) (λ i. omega (arith, c .before .slice-known .given i)) (start .pre .0 .1), inl refl), start .pre .1)
 
-top : (s b : ℕ) → LowestOf s b → b + s < 1024
-top s b L = top-below width s b (L .stars-below) (L .low-below) (λ i l. L .lowest i)
+give-words-requires-2 : tie.Need-give-words-requires-2
+give-words-requires-2 c κs =
+    let at = c .before .before .before in
+    ((words-encoded holdersAt _ (sized-decode _) _ (length-of _ 0 1024) (at .give-words .ensures), inr refl), at .before .before .before .pre .1)
 
-module _ (hs : List ℕ) (s b j : ℕ) (L : LowestOf s b) (k : ℕ) (h : k < 1024) where
-  by-sum : cond (eqb (b + bitAnd k s) k) j (getD hs k 0) ≡ holder hs s b j k
-  by-sum = ap (λ (t : Bool). cond t j (getD hs k 0)) (sym (among-sum width s b (λ i l. L .lowest i) (L .low-below) k h))
+same-length : tie.Need-same-length
+same-length c = search needs
 
-  keeps : b + bitAnd k s ≢ k → getD hs k 0 ≡ holder hs s b j k
-  keeps e = rw (ne-eqb (b + bitAnd k s) k e) at by-sum
-
-abbrev Inv-loop : tie.InvT-loop
-Inv-loop bytes₀ stars job first end y₀ bytes y =
-    Sweeping the-holders (decode bytes₀) (holder (decode bytes₀ .holders) stars first job) y bytes × (first ≤ y) × (y ≤ end) × (end ≤ 1024)
-
-abbrev μ-loop : tie.MeasureT-loop
-μ-loop bytes₀ stars job first end y₀ bytes y = end - y
-
-add-end : tie.Need-add-end Inv-loop μ-loop
-add-end c = omega (arith, top _ _ (c .before .pre .1))
-
-cast-end : tie.Need-cast-end Inv-loop μ-loop
-cast-end c = omega (arith, top _ _ (c .before .pre .1))
-
-add-end-2 : tie.Need-add-end-2 Inv-loop μ-loop
-add-end-2 c = omega (arith, top _ _ (c .before .pre .1))
-
-cast-y : tie.Need-cast-y Inv-loop μ-loop
-cast-y c = omega arith
-
-loop-holds : tie.Need-loop-holds Inv-loop μ-loop
-loop-holds c =
-    let a = c .before .pre .0 in
-    let L = c .before .pre .1 in
-    let r = c .before .args .bytes .now in
-    let t = top _ _ L in (
-      sweeping-none (encode-decode r (a .0) (λ i. omega (arith, c .slice-known .given i)) (a .1))
-          (λ k h. keeps (decode r .holders) _ _ _ L k (omega arith) (λ e. omega arith)),
-      omega arith,
-      omega arith,
-      omega arith,
-    )
-
-cast-after-grant : tie.Need-cast-after-grant Inv-loop μ-loop
-cast-after-grant c = omega arith
-
-mul-word : tie.Need-mul-word Inv-loop μ-loop
-mul-word c = omega arith
-
-add-word : tie.Need-add-word Inv-loop μ-loop
-add-word c = omega arith
-
-word-requires : tie.Need-word-requires Inv-loop μ-loop
-word-requires c κs = omega (arith, encoded-long (sweeping-encoded (sized-decode _) (c .before .before .loop .inv .0)))
-
-after-grant-requires : tie.Need-after-grant-requires Inv-loop μ-loop
-after-grant-requires c κs = omega arith
-
-set-holder-requires : tie.Need-set-holder-requires Inv-loop μ-loop
-set-holder-requires c κs = (sweeping-encoded (sized-decode _) (c .before .before .before .before .before .loop .inv .0), omega arith)
-
-add-y : tie.Need-add-y Inv-loop μ-loop
-add-y c = omega arith
-
-loop-less : tie.Need-loop-less Inv-loop μ-loop
-loop-less c = omega arith
-
-loop-again : tie.Need-loop-again Inv-loop μ-loop
-loop-again c =
-    let turn = c .before .before .before .before in
-    let at = turn .before .before .before .before in
-    let start = at .before .before in
-    let hs = decode (start .args .bytes .now) .holders in
-    let s = start .args .stars in
-    let b = start .args .low .0 in
-    let j = start .args .job in
-    let y = at .loop .y in
-    let z = sized-decode (start .args .bytes .now) in
-    let W = at .loop .inv .0 in
-    let v = turn .after-grant .ensures
-    ∙ ap (λ (h : ℕ). cond (eqb (b + bitAnd y s) y) j h) (turn .before .word .ensures ∙ holder-next z W (omega arith))
-    ∙ by-sum hs s b j (start .pre .1) y (omega arith) in
-    (sweeping-put z W (c .before .before .set-holder .ensures) (omega (arith, z .holders)) v, omega arith, omega arith, omega arith)
-
-same-length : tie.Need-same-length Inv-loop μ-loop
-same-length c = encoded-long (sweeping-encoded (sized-decode _) (c .before .loop .inv .0)) ∙ sym (c .before .before .before .pre .0 .0)
-
-returns : tie.Need-returns Inv-loop μ-loop
+returns : tie.Need-returns
 returns c =
-    let at = c .before in
-    let start = at .before .before in
-    let hs = decode (start .args .bytes .now) .holders in
-    let s = start .args .stars in
-    let b = start .args .low .0 in
-    let j = start .args .job in
-    let z = sized-decode (start .args .bytes .now) in
-    let f : ℕ → ℕ = holder hs s b j in
-    sweeping-all z (at .loop .inv .0) (map f (from 0 1024)) (length-of f 0 1024 ∙ sym (z .holders))
-    (λ k h. getD-each f 0 1024 k (omega (arith, z .holders)))
-    (λ k a h. keeps hs s b j (start .pre .1) k (omega (arith, z .holders)) (λ e. omega (arith, and-le-r k s)))
+    let at = c .before .before .before .before .before .before in
+    let a = at .before .before .before .args in
+    let xs = vertices width (a .stars) (a .low .0) in
+    c .before .before .give-words2 .ensures
+    ∙ ap (λ (s : State). encode (withStars s (given (s .stars) xs (a .stars))))
+    (decode-words holdersAt _ (sized-decode _) _ (length-of _ 0 1024) (at .give-words .ensures))
 
 pub give-spec : {M : Type 1} → statement M
-give-spec =
-    tie.close
-    (tie.spec
-    Inv-loop
-    μ-loop
-    add-end
-    cast-end
-    add-end-2
-    cast-y
-    loop-holds
-    cast-after-grant
-    mul-word
-    add-word
-    word-requires
-    after-grant-requires
-    set-holder-requires
-    add-y
-    loop-less
-    loop-again
-    same-length
-    returns)
+give-spec = tie.close (tie.spec give-words-requires give-words-requires-2 same-length returns)

@@ -7,22 +7,22 @@ use native.Mathlib.Omega.{arith}
 use lib.ListN.{length, getD}
 use Rattle.hypercube.proofs.Lists.{is-each}
 use Rattle.labels.specs.Relabelling.{relabelling}
-use Rattle.record.specs.Layout.{recordSize, conditionsAt, conditionsEnd, decode}
+use Rattle.record.specs.Layout.{recordSize, conditionsAt, starsAt, decode}
 use Rattle.record.proofs.Maximum.{part, length-part, part-at}
 use Rattle.nodes.proofs.relabelling.Statement.{statement}
 use Rattle.nodes.proofs.relabelling.Tie as tie
 
 -- the part that has the conditions
 module _ (r : List ℕ) (long : length r ≡ recordSize) where
-  entries : length (part r conditionsAt conditionsEnd) ≡ 1024
-  entries = length-part r conditionsAt conditionsEnd (omega arith)
+  entries : length (part r conditionsAt starsAt) ≡ 1024
+  entries = length-part r conditionsAt starsAt (omega arith)
 
-  conditions : part r conditionsAt conditionsEnd ≡ decode r .conditions
+  conditions : part r conditionsAt starsAt ≡ decode r .conditions
   unfolding decode
-  conditions = is-each (λ x. getD r (conditionsAt + x) 0) 1024 (part r conditionsAt conditionsEnd) entries
-      (part-at r conditionsAt conditionsEnd (omega arith))
+  conditions = is-each (λ x. getD r (conditionsAt + x) 0) 1024 (part r conditionsAt starsAt) entries
+      (part-at r conditionsAt starsAt (omega arith))
 
-  relabelled : {n : ℕ} → n ≡ decode r .n → relabelling n (part r conditionsAt conditionsEnd) ≡ relabelling (decode r .n) (decode r .conditions)
+  relabelled : {n : ℕ} → n ≡ decode r .n → relabelling n (part r conditionsAt starsAt) ≡ relabelling (decode r .n) (decode r .conditions)
   relabelled e = rw (e, conditions)
 
 dimension-requires : tie.Need-dimension-requires

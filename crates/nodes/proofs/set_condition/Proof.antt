@@ -30,7 +30,7 @@ returns c =
     let at = conditionsAt + start .args .x .0 in
     ap (λ (i : ℕ). set (start .args .bytes .now) (conditionsAt + i) v) (c .index .ensures)
     ∙ ap (λ (l : List ℕ). set l at v) (sym (encode-decode _ (start .pre .0) (λ i. omega (arith, c .before .slice-known .given i)) (start .pre .1 .1)))
-    ∙ set-condition-entry _ (sized-decode _) _ v
+    ∙ set-condition-entry _ (sized-decode _) _ v (start .pre .1 .0)
 
 pub set-condition-spec : {M : Type 1} → statement M
 set-condition-spec =

@@ -5,7 +5,8 @@ use native.Mathlib.Omega.{arith}
 use lib.ListN.{getD}
 use Rattle.record.specs.Layout.{decode}
 use Rattle.record.proofs.Round.{encode-decode, sized-decode, encoded-long}
-use Rattle.nodes.proofs.Sweeps.{Sweeping, the-map, sweeping-none, sweeping-encoded, sweeping-put, sweeping-all}
+use Rattle.nodes.proofs.Parts.{the-map}
+use Rattle.nodes.proofs.Sweeps.{Sweeping, sweeping-none, sweeping-encoded, sweeping-put, sweeping-all}
 use Rattle.nodes.proofs.set_map.Statement.{statement}
 use Rattle.nodes.proofs.set_map.Tie as tie
 

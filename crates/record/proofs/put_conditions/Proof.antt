@@ -5,10 +5,9 @@ use native.Mathlib.Omega.{arith}
 use borrow.Author.Needs.{needs}
 use Rattle.hypercube.proofs.Filled.{filled-next, filled-to}
 use Rattle.state.proofs.Valid.{Sized}
-use Rattle.record.specs.Layout.{conditionsAt, recordSize}
+use Rattle.record.specs.Layout.{conditionsAt, starsAt}
 use Rattle.record.specs.Stored.{Begun}
 use Rattle.record.proofs.Round.{encode-condition}
-use Rattle.record.proofs.Stored.{stored-all}
 use Rattle.record.proofs.put_conditions.Statement.{statement}
 use Rattle.record.proofs.put_conditions.Tie as tie
 
@@ -19,7 +18,7 @@ abbrev μ-loop : tie.MeasureT-loop
 μ-loop bytes₀ s x₀ bytes x = 1024 - x
 
 sized : (c : tie.Start Inv-loop μ-loop) → Sized (c .args .t1)
-sized c = record { directions = search needs; holders = search needs; conditions = search needs }
+sized c = record { directions = search needs; holders = search needs; conditions = search needs; stars = search needs }
 
 loop-holds : tie.Need-loop-holds Inv-loop μ-loop
 loop-holds c = (omega arith, c .pre)
@@ -41,14 +40,14 @@ loop-less c = omega arith
 
 loop-again : tie.Need-loop-again Inv-loop μ-loop
 loop-again c =
-    let v = sym (encode-condition _ (sized (c .before .before .before)) _) in
+    let v = sym (encode-condition _ (sized (c .before .before .before)) (c .before .before .loop .x) (omega arith)) in
     (omega arith, filled-to _ (filled-next _ (c .before .before .loop .inv .1) (omega arith) v) (omega arith))
 
 same-length : tie.Need-same-length Inv-loop μ-loop
 same-length c = c .before .loop .inv .1 .long ∙ sym (c .before .before .pre .long)
 
 returns : tie.Need-returns Inv-loop μ-loop
-returns c = stored-all (sized (c .before .before)) (filled-to recordSize (c .before .loop .inv .1) (omega arith))
+returns c = filled-to starsAt (c .before .loop .inv .1) (omega arith)
 
 pub put-conditions-spec : {M : Type 1} → statement M
 put-conditions-spec =

@@ -5,7 +5,7 @@ use native.Mathlib.Omega.{arith}
 use borrow.Author.Needs.{needs}
 use lib.ListN.{set, length-set}
 use Rattle.state.proofs.Valid.{Sized}
-use Rattle.record.specs.Layout.{recordSize, mapAt, encode}
+use Rattle.record.specs.Layout.{recordSize, recordKind, mapAt, encode}
 use Rattle.record.specs.Stored.{Stored}
 use Rattle.record.proofs.Round.{encode-map, encode-zero}
 use Rattle.record.proofs.Stored.{stored-from, stored-none, stored-next, stored-then, stored-to}
@@ -19,7 +19,7 @@ abbrev μ-loop : tie.MeasureT-loop
 μ-loop bytes₀ s i₀ bytes i = 10 - i
 
 sized : (c : tie.Start Inv-loop μ-loop) → Sized (c .args .t1)
-sized c = record { directions = search needs; holders = search needs; conditions = search needs }
+sized c = record { directions = search needs; holders = search needs; conditions = search needs; stars = search needs }
 
 slice-write-bytes : tie.Need-slice-write-bytes Inv-loop μ-loop
 slice-write-bytes c = omega arith
@@ -38,12 +38,12 @@ slice-write-bytes-5 c = simp length-set (omega arith)
 
 -- before the loop
 five : (c : tie.Start Inv-loop μ-loop) → let r = c .args .bytes .now in
-    Stored (c .args .t1) r mapAt (set (set (set (set (set r 0 (recordSize % 256)) 1 (recordSize / 256)) 2 1) 3 0) 4 (c .args .t1 .n))
+    Stored (c .args .t1) r mapAt (set (set (set (set (set r 0 (recordSize % 256)) 1 (recordSize / 256)) 2 recordKind) 3 0) 4 (c .args .t1 .n))
 unfolding encode
 five c =
     let h0 : Stored (c .args .t1) (c .args .bytes .now) 0 (c .args .bytes .now) = stored-none (c .pre) in
     let h2 = stored-next (recordSize / 256) (stored-next (recordSize % 256) h0 (omega arith) refl) (omega arith) refl in
-    let h4 = stored-next 0 (stored-next 1 h2 (omega arith) refl) (omega arith) refl in
+    let h4 = stored-next 0 (stored-next recordKind h2 (omega arith) refl) (omega arith) refl in
     stored-next _ h4 (omega arith) refl
 
 loop-holds : tie.Need-loop-holds Inv-loop μ-loop

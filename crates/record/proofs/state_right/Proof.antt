@@ -3,10 +3,12 @@ use Prim.Native.Nat.{ℕ, _^_}
 use borrow.Author.Needs.{needs}
 use borrow.Author.Tests.{not-true, not-false}
 use mathlib.Core.Path.{_≡_, sym, ap, ap₂, _∙_}
+use mathlib.Core.Bool.{true}
 use native.Mathlib.Omega.{arith}
 use Rattle.state.specs.Valid.{mapRight, nodesRight}
-use Rattle.state.proofs.Valid.{not-small, not-permuted, by-nodes}
+use Rattle.state.proofs.Valid.{not-small, not-permuted, not-nodes, by-stars, means-nodes}
 use Rattle.record.specs.Layout.{decode}
+use Rattle.record.proofs.Round.{sized-decode}
 use Rattle.record.proofs.state_right.Statement.{statement}
 use Rattle.record.proofs.state_right.Tie as tie
 
@@ -43,12 +45,43 @@ node-count-requires c κs = search needs
 nodes-right-requires : tie.Need-nodes-right-requires
 nodes-right-requires c κs = search needs
 
+-- what was found of the nodes
+nodes-test : (c : tie.After-nodes-right)
+    → let s = decode (c .before .before .before .before .before .before .before .before .before .args .bytes .now) in
+    nodesRight (s .holders) (s .conditions) (2 ^ s .n) ≡ c .nodes-right .result
+nodes-test c =
+    let e = c .before .before .before .before .before .before .before .dimension .ensures in
+    sym (c .nodes-right .ensures ∙ ap (nodesRight _ _) (c .before .node-count .ensures .0 ∙ ap (λ (n : ℕ). 2 ^ n) e))
+
 returns-3 : tie.Need-returns-3
 returns-3 c =
-    let at = c .before .before .before in
-    let e = at .before .before .before .before .dimension .ensures in
-    c .nodes-right .ensures ∙ ap (nodesRight _ _) (c .before .node-count .ensures .0 ∙ ap (λ (n : ℕ). 2 ^ n) e)
-    ∙ by-nodes _ (omega (arith, e)) (map-test at ∙ not-false _ (c .before .before .if2 .left))
+    let a = c .before in
+    let at = a .before .before .before in
+    not-nodes _ (omega (arith, at .before .before .before .before .dimension .ensures)) (map-test at ∙ not-false _ (a .before .before .if2 .left))
+    (nodes-test a ∙ not-true _ (c .if3 .taken))
+
+stars-right-requires : tie.Need-stars-right-requires
+stars-right-requires c κs =
+    let a = c .before in
+    let s = decode (a .before .before .before .before .before .before .before .before .before .args .bytes .now) in
+    let N = a .before .node-count .ensures in
+    let right : nodesRight (s .holders) (s .conditions) (a .before .node-count .result) ≡ true =
+    sym (a .nodes-right .ensures) ∙ not-false _ (c .if3 .left) in (
+      search needs,
+      record {
+        entries = sized-decode _ .holders;
+        within = N .1;
+        empty = λ x g l. means-nodes (s .holders) (s .conditions) (a .before .node-count .result) .holds right x l .1 g .0;
+      },
+    )
+
+returns-4 : tie.Need-returns-4
+returns-4 c =
+    let a = c .before .before in
+    let at = a .before .before .before in
+    c .stars-right .ensures
+    ∙ by-stars _ (omega (arith, at .before .before .before .before .dimension .ensures)) (map-test at ∙ not-false _ (a .before .before .if2 .left))
+    (nodes-test a ∙ not-false _ (c .before .if3 .left))
 
 pub state-right-spec : {M : Type 1} → statement M
 state-right-spec =
@@ -61,4 +94,6 @@ state-right-spec =
     returns-2
     node-count-requires
     nodes-right-requires
-    returns-3)
+    returns-3
+    stars-right-requires
+    returns-4)
