@@ -1,6 +1,6 @@
 //! The frame call: document 01, "Six calls and their frames" and "When a
-//! call says no", and document 02, (e). Each function checks its causes in
-//! the table's order.
+//! call says no", and document 02, (e) and (f). Each function checks its causes
+//! in the table's order.
 
 use crate::choose::{choose_with, Answer};
 use crate::cube::{self, Nodes};
@@ -124,13 +124,15 @@ fn first_free(record: &Record, job: u16, k: u8, strategy: u8) -> Answer {
     choose_with(strategy, record::dimension(record), k.into(), is_free)
 }
 
-/// Makes the job the holder of a member, which is given by label.
+/// Makes the job the holder of a member, which is given by label; each of its
+/// nodes gets the star bits that are replied: document 02, (f).
 fn grant(record: &mut Record, job: u16, low: u32, stars: u32, tried: u32) -> Reply {
     let map = record::map(record);
     let (lowest, stars) = (cube::node(&map, low), cube::node(&map, stars));
     let mut part = 0;
     loop {
         record::set_holder(record, lowest | part, job);
+        record::set_stars(record, lowest | part, stars as u16);
         part = part.wrapping_sub(stars) & stars;
         if part == 0 {
             break;

@@ -1,9 +1,10 @@
-//! The record of 3088 bytes: document 01, "Node and record".
+//! The record of 5136 bytes: document 01, "Node and record", and the star bits
+//! of document 02, (f).
 
 use crate::cube::{Map, IDENTITY, MAX_N};
 
-pub const SIZE: usize = 3088;
-pub const KIND: u16 = 0x0001;
+pub const SIZE: usize = 5136;
+pub const KIND: u16 = 0x0002;
 pub const NODES: usize = 1024;
 
 pub const UNCONFIRMED: u8 = 0;
@@ -16,8 +17,9 @@ pub type Record = [u8; SIZE];
 const N: usize = 4;
 const MAP: usize = 5;
 const ZERO: usize = 15;
-const HOLDERS: usize = 16;
-const CONDITIONS: usize = HOLDERS + 2 * NODES;
+pub const HOLDERS: usize = 16;
+pub const CONDITIONS: usize = HOLDERS + 2 * NODES;
+pub const STARS: usize = CONDITIONS + NODES;
 
 /// Set-up: a fresh cube of dimension n. Gives 1 for a buffer of another size,
 /// then 7 for n above 10, and writes nothing then.
@@ -50,7 +52,17 @@ pub fn is_valid(record: &Record) -> bool {
     is_map(&map(record), record[N] as usize)
         && highest <= FAULTY
         && all_zero(&record[HOLDERS + 2 * nodes..CONDITIONS])
-        && all_zero(&record[CONDITIONS + nodes..])
+        && all_zero(&record[CONDITIONS + nodes..STARS])
+        && all_zero(&record[STARS + 2 * nodes..])
+        && unheld_have_none(holders(record), &record[STARS..])
+}
+
+/// Whether each node that has no holder has star bits 0, by the bytes of both.
+fn unheld_have_none(holders: &[u8], stars: &[u8]) -> bool {
+    let word = |bytes: &[u8]| u16::from_le_bytes([bytes[0], bytes[1]]);
+    let [holders, stars] = [holders, stars].map(|bytes| bytes.chunks_exact(2).map(word));
+    let of_unheld = holders.zip(stars).map(|(job, stars)| if job == 0 { stars } else { 0 });
+    of_unheld.fold(0, |any, stars| any | stars) == 0
 }
 
 /// Whether the first n entries permute 1 to n and each other is its own.
@@ -102,6 +114,17 @@ pub fn set_holder(record: &mut Record, node: u32, job: u16) {
     record[at..at + 2].copy_from_slice(&job.to_le_bytes());
 }
 
+/// The star bits of the grant that holds a node, 0 if it is unheld.
+pub fn stars(record: &Record, node: u32) -> u16 {
+    let at = STARS + 2 * node as usize;
+    u16::from_le_bytes([record[at], record[at + 1]])
+}
+
+pub fn set_stars(record: &mut Record, node: u32, stars: u16) {
+    let at = STARS + 2 * node as usize;
+    record[at..at + 2].copy_from_slice(&stars.to_le_bytes());
+}
+
 /// The holders' bytes of the nodes below 2^n, in node order.
 fn holders(record: &Record) -> &[u8] {
     &record[HOLDERS..][..2 << dimension(record)]
@@ -151,13 +174,17 @@ pub fn free_nodes(record: &Record, job: u16) -> [bool; NODES] {
     free
 }
 
-/// Makes the nodes that a job holds unheld, and gives their number.
+/// Makes the nodes that a job holds unheld, their star bits 0, and gives their
+/// number.
 pub fn release(record: &mut Record, job: u16) -> u16 {
     let size = 2 << dimension(record);
+    let (before, stars) = record.split_at_mut(STARS);
+    let holders = before[HOLDERS..][..size].chunks_exact_mut(2);
     let mut given_back = 0;
-    for holder in record[HOLDERS..][..size].chunks_exact_mut(2) {
+    for (holder, stars) in holders.zip(stars[..size].chunks_exact_mut(2)) {
         if u16::from_le_bytes([holder[0], holder[1]]) == job {
             holder.fill(0);
+            stars.fill(0);
             given_back += 1;
         }
     }

@@ -14,7 +14,7 @@ fn two_jobs() -> Cube {
 fn holding(n: u32, nodes: &[u16], faulty: &[u16]) -> Cube {
     let mut cube = Cube::with_not_good(n, &[], faulty);
     for node in nodes {
-        cube.record[16 + 2 * usize::from(*node)] = 1;
+        cube.hold((*node).into(), 1, 0);
     }
     cube
 }
@@ -80,16 +80,14 @@ fn the_first_member_need_not_have_a_node_of_the_job() {
 }
 
 #[test]
-fn the_record_changes_in_the_holders_alone() {
+fn the_record_changes_in_holders_and_star_bits_alone() {
     let mut cube = two_jobs();
     assert_eq!(cube.call(&fault(1)), Got::Done(1));
-    let mut expected = cube.record.clone();
-    expected[16..20].fill(0);
-    for node in 4..8 {
-        expected[16 + 2 * node] = 1;
-    }
+    let mut expected = Cube { record: cube.record.clone() };
+    (0..2).for_each(|node| expected.hold(node, 0, 0));
+    (4..8).for_each(|node| expected.hold(node, 1, 3));
     assert_eq!(cube.call(&grow(1, 2, BUDDY)), granted(1, 4, 3, 2));
-    assert!(cube.record == expected);
+    assert!(cube.record == expected.record);
     assert_eq!(cube.call(&repaired(1)), Got::Done(0)); // still faulty, unheld now
 }
 

@@ -4,6 +4,7 @@ use cube_reference::gen::Log;
 use cube_reference::rng::Rng;
 use cube_reference::{call, family};
 
+use crate::held::Held;
 use crate::support::*;
 
 #[derive(Clone)]
@@ -13,6 +14,8 @@ struct History {
     map: Vec<u32>,
     condition: Vec<u8>,
     holder: Vec<u16>,
+    /// The star bits of the grant that holds a node.
+    stars: Vec<u16>,
 }
 
 /// A reply's fields after its length.
@@ -20,8 +23,9 @@ type Words = Vec<u16>;
 
 impl History {
     fn fresh(n: u32) -> History {
-        let nodes = 1 << n;
-        History { n, map: (1..=n).collect(), condition: vec![0; nodes], holder: vec![0; nodes] }
+        let (map, nodes) = ((1..=n).collect(), 1 << n);
+        let (condition, holder, stars) = (vec![0; nodes], vec![0; nodes], vec![0; nodes]);
+        History { n, map, condition, holder, stars }
     }
 
     /// A state that passes refusal 1 and need not come from calls.
@@ -34,6 +38,7 @@ impl History {
         for node in 0..1 << n {
             if rng.below(32) < held {
                 state.holder[node] = rng.pick(&[1, 2, 255, 256, 65535]);
+                state.stars[node] = rng.pick(&[0, 1, 6, 255, 256, 1023, 65535]);
             }
         }
         match rng.below(3) {
@@ -62,14 +67,16 @@ impl History {
     }
 
     fn record(&self) -> Vec<u8> {
-        let mut bytes = vec![0x10, 0x0c, 1, 0, self.n as u8];
+        let mut bytes = vec![0x10, 0x14, 2, 0, self.n as u8];
         bytes.extend(self.map.iter().map(|direction| *direction as u8));
         bytes.extend(self.n as u8 + 1..=10);
         bytes.push(0);
         bytes.extend(self.holder.iter().flat_map(|job| two(*job)));
-        bytes.resize(16 + 2048, 0);
+        bytes.resize(CONDITIONS, 0);
         bytes.extend(&self.condition);
-        bytes.resize(3088, 0);
+        bytes.resize(STARS, 0);
+        bytes.extend(self.stars.iter().flat_map(|stars| two(*stars)));
+        bytes.resize(SIZE, 0);
         bytes
     }
 
@@ -153,14 +160,19 @@ impl History {
         let inside = |node: &usize| self.label(*node) & !stars == low;
         let nodes: Vec<usize> = (0..1 << self.n).filter(inside).collect();
         self.release(job);
-        nodes.iter().for_each(|node| self.holder[*node] = job);
-        let star_bits = nodes.iter().fold(0, |bits, node| bits | (node ^ nodes[0]));
-        (0, Some(vec![0x8001, job, nodes[0] as u16, star_bits as u16, place as u16 + 1]))
+        let star_bits = nodes.iter().fold(0, |bits, node| bits | (node ^ nodes[0])) as u16;
+        for node in &nodes {
+            (self.holder[*node], self.stars[*node]) = (job, star_bits);
+        }
+        (0, Some(vec![0x8001, job, nodes[0] as u16, star_bits, place as u16 + 1]))
     }
 
     fn release(&mut self, job: u16) -> u16 {
-        let held = self.holder.iter_mut().filter(|holder| **holder == job);
-        held.map(|holder| *holder = 0).count() as u16
+        let held: Vec<usize> = (0..1 << self.n).filter(|node| self.holder[*node] == job).collect();
+        for node in &held {
+            (self.holder[*node], self.stars[*node]) = (0, 0);
+        }
+        held.len() as u16
     }
 
     fn relabel(&mut self) -> u16 {
@@ -187,9 +199,10 @@ fn is_free(low: u32, stars: u32, free: &[bool]) -> bool {
 }
 
 /// Makes the calls of a random list on the record and in the history, and
-/// compares the number, the reply and the whole record after each.
-fn compare(history: &mut History, seed: u64, count: u64, rng: &mut Rng) {
-    let mut record = history.record();
+/// compares the number, the reply and the whole record after each. Gives the
+/// record, and what the list was granted and still holds.
+fn compare(history: &mut History, seed: u64, count: u64, rng: &mut Rng) -> (Vec<u8>, Held) {
+    let (mut record, mut held) = (history.record(), Held::default());
     let mut log = Log::new(seed, count, record[..].try_into().unwrap());
     for _ in 0..count {
         let frame = &log.next(record[..].try_into().unwrap());
@@ -205,14 +218,20 @@ fn compare(history: &mut History, seed: u64, count: u64, rng: &mut Rng) {
         assert_eq!(call(&mut record, frame, &mut reply), number.into(), "{seed} {frame:x?}");
         assert_eq!(reply, expected, "seed {seed}, frame {frame:x?}");
         assert!(record == history.record(), "record, seed {seed}, frame {frame:x?}");
+        if number == 0 {
+            held.add(frame, &reply);
+        }
     }
+    (record, held)
 }
 
 #[test]
 fn lists_of_calls_follow_the_history() {
     let mut rng = Rng::new(2);
     for seed in 0..44 {
-        compare(&mut History::fresh((seed % 11) as u32), seed, 1200, &mut rng);
+        let mut history = History::fresh((seed % 11) as u32);
+        let (record, held) = compare(&mut history, seed, 1200, &mut rng);
+        held.stands_in(&record);
     }
 }
 

@@ -52,14 +52,24 @@ fn the_example_by_cube_ref() {
     assert_eq!(String::from_utf8(output.stdout).unwrap(), EXAMPLE_OUTPUT);
 }
 
-/// Job 7 holds node 0, which is good; node 1 is faulty.
+/// Job 7 holds node 0, which is good and a subcube without stars; node 1 is
+/// faulty.
 #[test]
 fn the_record_that_the_example_leaves() {
-    let mut expected = [0; 3088];
-    expected[..16].copy_from_slice(&[0x10, 0x0c, 1, 0, 1, 1, 2, 3, 4, 5, 6, 7, 8, 9, 10, 0]);
-    expected[16] = 7;
-    expected[2064..2066].copy_from_slice(&[1, 2]);
+    let mut expected = [0; SIZE];
+    expected[..16].copy_from_slice(&[0x10, 0x14, 2, 0, 1, 1, 2, 3, 4, 5, 6, 7, 8, 9, 10, 0]);
+    expected[HOLDERS] = 7;
+    expected[CONDITIONS..][..2].copy_from_slice(&[1, 2]);
     assert!(record_after(&bytes(EXAMPLE)[..]).unwrap() == expected);
+}
+
+/// Both nodes are job 5's; the growth's star bits are 1.
+#[test]
+fn the_record_that_a_growth_leaves() {
+    let calls = [good(0), good(1), request(5, 0, TREE), grow(5, 1, TREE)];
+    let record = record_after(&[setup_frame(1), calls.concat()].concat()[..]).unwrap();
+    assert_eq!(record[HOLDERS..][..5], [5, 0, 5, 0, 0]);
+    assert_eq!(record[STARS..][..5], [1, 0, 1, 0, 0]);
 }
 
 #[test]

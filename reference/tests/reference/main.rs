@@ -1,8 +1,9 @@
-//! The reference program held to document 01 and to the sources it cites.
+//! The reference program held to documents 01 and 02 and to the sources they cite.
 
 mod families;
 mod generator;
 mod growth;
+mod held;
 mod history;
 mod log;
 mod records;
@@ -11,5 +12,6 @@ mod relabel;
 mod replies;
 mod sessions;
 mod sources;
+mod stars;
 mod support;
 mod value_table;

@@ -1,20 +1,19 @@
-//! Document 01, "Node and record": set-up, refusal 1, and records that pass
-//! it though no list of calls leaves them.
+//! Document 01, "Node and record", with the size and kind of document 02, (f):
+//! set-up, refusal 1, and records that pass it though no list of calls leaves
+//! them. What it asks of star bits is tested in `stars`.
 
-use cube_reference::{call, setup};
+use cube_reference::setup;
 
 use crate::support::*;
-
-const CONDITIONS: usize = 16 + 2048;
 
 #[test]
 fn set_up_makes_a_fresh_cube_of_any_buffer() {
     for n in 0..=10 {
-        let mut fresh = vec![0x10, 0x0c, 0x01, 0x00, n as u8]; // 3088 is 0x0c10
+        let mut fresh = vec![0x10, 0x14, 0x02, 0x00, n as u8]; // 5136 is 0x1410
         fresh.extend([1, 2, 3, 4, 5, 6, 7, 8, 9, 10, 0]);
-        fresh.resize(3088, 0);
+        fresh.resize(5136, 0);
         for byte in [0, 0xff, 0x5a] {
-            let mut record = vec![byte; 3088];
+            let mut record = vec![byte; 5136];
             assert_eq!(setup(&mut record, n), 0);
             assert!(record == fresh);
         }
@@ -23,7 +22,7 @@ fn set_up_makes_a_fresh_cube_of_any_buffer() {
 
 #[test]
 fn a_refused_set_up_writes_nothing() {
-    for size in [0, 12, 3087, 3089, 6176] {
+    for size in [0, 12, 3088, 5135, 5137, 10272] {
         for n in [0, 10, 11, u32::MAX] {
             let mut record = vec![0x5a; size];
             assert_eq!(setup(&mut record, n), 1, "1 is judged before 7");
@@ -31,22 +30,10 @@ fn a_refused_set_up_writes_nothing() {
         }
     }
     for n in [11, 256, 65536, u32::MAX] {
-        let mut record = vec![0x5a; 3088];
+        let mut record = vec![0x5a; SIZE];
         assert_eq!(setup(&mut record, n), 7);
-        assert!(record == vec![0x5a; 3088]);
+        assert!(record == vec![0x5a; SIZE]);
     }
-}
-
-/// What a call returns on a record; refusal 1 leaves record and reply.
-fn returned(record: &[u8]) -> u32 {
-    let mut after = record.to_vec();
-    let mut reply = [0xcc; 16];
-    let number = call(&mut after, &good(0), &mut reply);
-    if number == 1 {
-        assert!(after == record);
-        assert_eq!(reply, [0xcc; 16]);
-    }
-    number
 }
 
 /// A working cube of dimension 3 with these bytes set.
@@ -65,8 +52,10 @@ fn a_damaged_record_is_refused_with_1() {
     assert_eq!(returned(&with_bytes(&[])), 0);
     let damages: &[&[(usize, u8)]] = &[
         &[(0, 0x11)],             // length
-        &[(1, 0x0d)],             // length
+        &[(1, 0x15)],             // length
+        &[(1, 0x0c)],             // length 3088
         &[(2, 0)],                // kind
+        &[(2, 1)],                // kind 0x0001
         &[(3, 1)],                // kind
         &[(4, 11)],               // n above 10
         &[(4, 255)],              // n above 10
@@ -80,13 +69,13 @@ fn a_damaged_record_is_refused_with_1() {
         &[(8, 0)],                // entry above n not itself
         &[(13, 10), (14, 9)],     // entries above n swapped
         &[(15, 1)],               // zero byte
-        &[(16 + 16, 1)],          // holder of node 8
-        &[(16 + 17, 1)],          // holder of node 8, high byte
+        &[(HOLDERS + 16, 1)],     // holder of node 8
+        &[(HOLDERS + 17, 1)],     // holder of node 8, high byte
         &[(CONDITIONS - 1, 1)],   // holder of node 1023
         &[(CONDITIONS, 3)],       // condition above 2
         &[(CONDITIONS + 7, 255)], // condition above 2
         &[(CONDITIONS + 8, 1)],   // condition of node 8
-        &[(3087, 2)],             // condition of node 1023
+        &[(STARS - 1, 2)],        // condition of node 1023
     ];
     for damage in damages {
         assert_eq!(returned(&with_bytes(damage)), 1, "{damage:?}");
@@ -97,21 +86,30 @@ fn a_damaged_record_is_refused_with_1() {
 fn a_record_of_another_size_is_refused_with_1() {
     let record = with_bytes(&[]);
     assert_eq!(returned(&[]), 1);
-    assert_eq!(returned(&record[..3087]), 1);
+    assert_eq!(returned(&record[..5135]), 1);
     assert_eq!(returned(&[&record[..], &[0]].concat()), 1);
+}
+
+/// Length 3088, kind 0x0001, and nothing after the conditions.
+#[test]
+fn a_record_without_star_bits_is_refused_with_1() {
+    let old = with_bytes(&[(1, 0x0c), (2, 1)]);
+    assert_eq!(returned(&old[..3088]), 1);
+    assert_eq!(returned(&old), 1);
+    assert_eq!(returned(&with_bytes(&[])[..3088]), 1);
 }
 
 /// At n = 10 every node is below 2^n, and every byte of a holder may be any.
 #[test]
 fn any_holders_pass_below_2_to_the_n() {
     let mut cube = Cube::new(10);
-    for (place, byte) in (16..CONDITIONS).zip((0u8..=250).cycle()) {
+    for (place, byte) in (HOLDERS..CONDITIONS).zip((0u8..=250).cycle()) {
         cube.record[place] = byte;
     }
     assert_eq!(returned(&cube.record), 0);
-    cube.record[3087] = 2;
+    cube.record[STARS - 1] = 2;
     assert_eq!(returned(&cube.record), 0);
-    cube.record[3087] = 3;
+    cube.record[STARS - 1] = 3;
     assert_eq!(returned(&cube.record), 1);
 }
 
@@ -119,8 +117,8 @@ fn any_holders_pass_below_2_to_the_n() {
 #[test]
 fn scattered_holders_are_released_together() {
     let mut cube = Cube::with_good(3, |node| node != 2 && node != 4);
-    for place in [16 + 2, 16 + 4, 16 + 8] {
-        cube.record[place] = 9;
+    for node in [1, 2, 4] {
+        cube.hold(node, 9, 0);
     }
     cube.record[CONDITIONS + 4] = 2;
     assert_eq!(cube.call(&request(9, 0, BUDDY)), refused(10, 0));

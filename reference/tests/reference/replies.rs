@@ -30,18 +30,6 @@ fn reply_bytes_by_kind() {
     }
 }
 
-/// The record differs from what it was in just these bytes.
-fn changes(cube: &mut Cube, frame: &[u8], bytes: &[(usize, u8)]) {
-    let mut expected = cube.record.clone();
-    for (place, value) in bytes {
-        expected[*place] = *value;
-    }
-    assert!(!matches!(cube.call(frame), Got::Refused { .. }));
-    assert!(cube.record == expected, "record after {frame:x?}");
-}
-
-const CONDITIONS: usize = 16 + 2048;
-
 #[test]
 fn reports_set_one_condition() {
     let mut cube = Cube::new(3);
@@ -56,12 +44,15 @@ fn reports_set_one_condition() {
 }
 
 #[test]
-fn a_grant_and_a_release_set_holders() {
+fn a_grant_and_a_release_set_holders_and_star_bits() {
     let mut cube = Cube::with_good(3, |_| true);
     // The tree's first member at k 2 is 0XX, nodes 0 to 3.
-    let held: Vec<(usize, u8)> = (16..24).map(|i| (i, [0x34, 0x12][i % 2])).collect();
+    let four = |part: usize, bytes: [u8; 2]| {
+        (part..part + 8).map(move |i| (i, bytes[i % 2])).collect::<Vec<(usize, u8)>>()
+    };
+    let held = [four(HOLDERS, [0x34, 0x12]), four(STARS, [3, 0])].concat();
     changes(&mut cube, &request(0x1234, 2, TREE), &held);
-    let unheld: Vec<(usize, u8)> = (16..24).map(|i| (i, 0)).collect();
+    let unheld = [four(HOLDERS, [0, 0]), four(STARS, [0, 0])].concat();
     changes(&mut cube, &release(0x1234), &unheld);
 }
 

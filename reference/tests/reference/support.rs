@@ -7,6 +7,13 @@ pub const GRAY: u8 = 1;
 pub const TREE: u8 = 2;
 pub const EXTENDED: u8 = 3;
 
+/// The size of a record, and where it has holders, conditions and star bits:
+/// document 01, "Node and record", and document 02, (f).
+pub const SIZE: usize = 5136;
+pub const HOLDERS: usize = 16;
+pub const CONDITIONS: usize = HOLDERS + 2048;
+pub const STARS: usize = CONDITIONS + 1024;
+
 /// What a call gave, read from its reply's bytes.
 #[derive(Clone, Copy, Debug, PartialEq, Eq)]
 pub enum Got {
@@ -77,7 +84,7 @@ pub struct Cube {
 impl Cube {
     /// A fresh cube.
     pub fn new(n: u32) -> Cube {
-        let mut record = vec![0xa5; 3088];
+        let mut record = vec![0xa5; SIZE];
         assert_eq!(setup(&mut record, n), 0);
         Cube { record }
     }
@@ -130,8 +137,37 @@ impl Cube {
 
     /// The nodes that a job holds, by the record's bytes.
     pub fn held_by(&self, job: u16) -> Vec<u16> {
-        (0..1024).filter(|node| at(&self.record, 16 + 2 * usize::from(*node)) == job).collect()
+        (0..1024).filter(|node| at(&self.record, HOLDERS + 2 * usize::from(*node)) == job).collect()
     }
+
+    /// Makes a job the holder of a node, with these star bits, by no grant.
+    pub fn hold(&mut self, node: usize, job: u16, stars: u16) {
+        self.record[HOLDERS + 2 * node..][..2].copy_from_slice(&two(job));
+        self.record[STARS + 2 * node..][..2].copy_from_slice(&two(stars));
+    }
+}
+
+/// What a call returns on a record; refusal 1 leaves record and reply.
+pub fn returned(record: &[u8]) -> u32 {
+    let mut after = record.to_vec();
+    let mut reply = [0xcc; 16];
+    let number = call(&mut after, &good(0), &mut reply);
+    if number == 1 {
+        assert!(after == record);
+        assert_eq!(reply, [0xcc; 16]);
+    }
+    number
+}
+
+/// The call is accepted, and the record differs from what it was in just these
+/// bytes.
+pub fn changes(cube: &mut Cube, frame: &[u8], bytes: &[(usize, u8)]) {
+    let mut expected = cube.record.clone();
+    for (place, value) in bytes {
+        expected[*place] = *value;
+    }
+    assert!(!matches!(cube.call(frame), Got::Refused { .. }));
+    assert!(cube.record == expected, "record after {frame:x?}");
 }
 
 /// The call is refused: the number is returned, the record stays, the reply

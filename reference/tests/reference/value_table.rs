@@ -7,6 +7,8 @@ use cube_reference::frame::{Call, Reply};
 use cube_reference::growths::{Growths, SORTS};
 use cube_reference::session::{calls, damaged, frame_of, make, start, sum, DAMAGES, EACH};
 
+use crate::support::SIZE;
+
 /// The calls of each session with what they gave.
 fn sessions() -> Vec<(Call, Reply)> {
     let mut all = Vec::new();
@@ -85,8 +87,8 @@ fn each_damage_but_the_first_is_refused_1() {
 
 /// The sum of a record with one byte 1, so many places before the last.
 fn sum_of_one(before_last: usize) -> u32 {
-    let mut record = [0; 3088];
-    record[3087 - before_last] = 1;
+    let mut record = [0; SIZE];
+    record[SIZE - 1 - before_last] = 1;
     sum(&record)
 }
 
@@ -96,6 +98,6 @@ fn the_sum_is_as_written_down() {
     assert_eq!(sum_of_one(1), 31);
     assert_eq!(sum_of_one(4), 923_521);
     assert_eq!(sum_of_one(5), 193_037); // 923521 - 14 * 65521 is 6227, and 31 * 6227 this
-    assert_ne!(sum_of_one(3087 - 4), 0);
-    assert_eq!(sum_of_one(3087 - 3), 0, "the bytes before n are not in it");
+    assert_ne!(sum_of_one(SIZE - 5), 0);
+    assert_eq!(sum_of_one(SIZE - 4), 0, "the bytes before n are not in it");
 }
