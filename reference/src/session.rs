@@ -78,22 +78,31 @@ pub const EACH: [Call; 7] = [
     Call::Release { job: 65535 },
 ];
 
-/// How many damages there are; the first leaves the record right.
-pub const DAMAGES: u32 = 8;
+/// How many damages there are; the first so many leave the record right.
+pub const DAMAGES: u32 = 13;
+pub const RIGHT: u32 = 2;
 
-/// A fresh record of dimension 3 with one thing changed.
+/// A fresh record of dimension 3 with one thing changed, or two of one node.
 pub fn damaged(damage: u32) -> Record {
     let mut record = fresh(3);
     let mut map = record::map(&record);
     match damage {
         0 => record::set_holder(&mut record, 7, 65535),
-        1 => record[4] = 11,
-        2 => record::set_condition(&mut record, 0, 3),
-        3 => record::set_holder(&mut record, 8, 5),
-        4 => record::set_condition(&mut record, 1023, 1),
-        5 => map[0] = 2,
-        6 => map[2] = 4,
-        _ => map[9] = 9,
+        1 => {
+            record::set_holder(&mut record, 7, 65535);
+            record::set_stars(&mut record, 7, 65535);
+        }
+        2 => record[4] = 11,
+        3 => record::set_condition(&mut record, 0, 3),
+        4 => record::set_holder(&mut record, 8, 5),
+        5 => record::set_condition(&mut record, 1023, 1),
+        6 => map[0] = 2,
+        7 => map[2] = 4,
+        8 => map[9] = 9,
+        9 => record::set_stars(&mut record, 0, 1),
+        10 => record::set_stars(&mut record, 7, 256),
+        11 => record::set_stars(&mut record, 8, 1),
+        _ => record::set_stars(&mut record, 1023, 256),
     }
     record::set_map(&mut record, &map);
     record
@@ -140,8 +149,9 @@ pub fn frame_of(call: Call) -> Vec<u8> {
     }
 }
 
-/// The sum of a record's bytes from n on: n, the map, the zero byte, holders
-/// and conditions. Each byte is added to 31 times the remainder by 65521.
+/// The sum of a record's bytes from n on: n, the map, the zero byte, holders,
+/// conditions and star bits. Each byte is added to 31 times the remainder by
+/// 65521.
 pub fn sum(record: &Record) -> u32 {
     record[4..].iter().fold(0, |sum, byte| sum % 65521 * 31 + u32::from(*byte))
 }

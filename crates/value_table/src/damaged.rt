@@ -1,4 +1,5 @@
-// One call of each kind on a state of dimension 3 with one thing changed, and on its record. The first change leaves it right.
+// One call of each kind on a state of dimension 3 with one thing changed, or two of one node, and on its record. The first two changes leave it
+// right.
 use super::pair;
 use super::print;
 use hypercube::Node;
@@ -9,13 +10,21 @@ fn changed(change: u32) -> State {
     let mut s = State::fresh(3);
     match change {
         0 => s.holders[7] = 65535,
-        1 => s.n = 11,
-        2 => s.conditions[0] = 3,
-        3 => s.holders[8] = 5,
-        4 => s.conditions[1023] = 1,
-        5 => s.map[0] = 2,
-        6 => s.map[2] = 4,
-        _ => s.map[9] = 9,
+        1 => {
+            s.holders[7] = 65535;
+            s.stars[7] = 65535;
+        }
+        2 => s.n = 11,
+        3 => s.conditions[0] = 3,
+        4 => s.holders[8] = 5,
+        5 => s.conditions[1023] = 1,
+        6 => s.map[0] = 2,
+        7 => s.map[2] = 4,
+        8 => s.map[9] = 9,
+        9 => s.stars[0] = 1,
+        10 => s.stars[7] = 256,
+        11 => s.stars[8] = 1,
+        _ => s.stars[1023] = 256,
     }
     s
 }
@@ -62,4 +71,9 @@ pub(crate) fn states() {
     state(5);
     state(6);
     state(7);
+    state(8);
+    state(9);
+    state(10);
+    state(11);
+    state(12);
 }

@@ -1,4 +1,5 @@
-// The sum of a state: over n, the map, a zero, the holders, low byte first, and the conditions. These are a record's bytes from n on.
+// The sum of a state: over n, the map, a zero, the holders, low byte first, the conditions and the star bits, as the holders. These are a record's
+// bytes from n on.
 // Each byte is added to 31 times the sum's remainder by 65521.
 use state::State;
 
@@ -32,7 +33,8 @@ fn with_words(before: u32, words: &[u16]) -> u32 {
 
 pub(crate) fn of_state(s: State) -> u32 {
     let head = added(with_bytes(added(0, s.n), &s.map, 0), 0);
-    with_bytes(with_words(head, &s.holders), &s.conditions, 0)
+    let nodes = with_bytes(with_words(head, &s.holders), &s.conditions, 0);
+    with_words(nodes, &s.stars)
 }
 
 pub(crate) fn of_record(rec: &[u8]) -> u32 {

@@ -5,7 +5,7 @@ use std::collections::BTreeSet;
 
 use cube_reference::frame::{Call, Reply};
 use cube_reference::growths::{Growths, SORTS};
-use cube_reference::session::{calls, damaged, frame_of, make, start, sum, DAMAGES, EACH};
+use cube_reference::session::{calls, damaged, frame_of, make, start, sum, DAMAGES, EACH, RIGHT};
 
 use crate::support::SIZE;
 
@@ -71,10 +71,12 @@ fn the_sessions_have_every_sort_of_growth() {
 }
 
 #[test]
-fn each_damage_but_the_first_is_refused_1() {
-    let mut first = damaged(0);
-    assert!(EACH.iter().all(|call| make(&mut first, *call).number != 1));
-    for damage in 1..DAMAGES {
+fn each_damage_that_is_not_right_is_refused_1() {
+    for damage in 0..RIGHT {
+        let mut record = damaged(damage);
+        assert!(EACH.iter().all(|call| make(&mut record, *call).number != 1));
+    }
+    for damage in RIGHT..DAMAGES {
         let mut record = damaged(damage);
         for call in EACH {
             let given = make(&mut record, call);
