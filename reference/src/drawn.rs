@@ -1,12 +1,13 @@
 //! What random lists of calls draw: the D of accepted relabels, grants by the
-//! maps that these set, and growths.
+//! maps that these set, growths, and star bits.
 
 use std::ops::AddAssign;
 
+use crate::counts::Counts;
 use crate::cube::{relabel, IDENTITY};
 use crate::frame::{self, Call};
-use crate::growths::Growths;
 use crate::record::{self, Record, FAULTY, GOOD, UNCONFIRMED};
+use crate::{growths, stars};
 
 /// Counts for one n.
 #[derive(Clone, Copy, Debug, Default)]
@@ -22,7 +23,8 @@ pub struct Drawn {
     pub moved: u64,
     /// Those of `moved` where such a mixed relabel set the map.
     pub after_mixed: u64,
-    pub growths: Growths,
+    pub growths: Counts<{ growths::SORTS.len() }>,
+    pub stars: Counts<{ stars::SORTS.len() }>,
 }
 
 impl AddAssign for Drawn {
@@ -34,6 +36,7 @@ impl AddAssign for Drawn {
         self.moved += other.moved;
         self.after_mixed += other.after_mixed;
         self.growths += other.growths;
+        self.stars += other.stars;
     }
 }
 
@@ -49,6 +52,10 @@ impl List {
     /// Counts a call, given the number that was returned and the record before
     /// and after it.
     pub fn add(&mut self, frame: &[u8], number: u32, before: &Record, after: &Record) {
+        self.drawn.growths.add(growths::sorts(frame, number, before, after));
+        if number == 0 {
+            self.drawn.stars.add(stars::sorts(frame, before, after));
+        }
         match frame::read(frame) {
             Ok(Call::Relabel) if number == 0 => self.add_relabel(after),
             Ok(Call::Request { .. }) if number == 0 => {
@@ -56,7 +63,6 @@ impl List {
                 self.drawn.moved += u64::from(moved);
                 self.drawn.after_mixed += u64::from(moved && self.mixed);
             }
-            Ok(Call::Grow { .. }) => self.drawn.growths.add(frame, number, before, after),
             _ => {}
         }
     }

@@ -1,7 +1,5 @@
 //! The sorts of growths that random lists of calls draw.
 
-use std::ops::AddAssign;
-
 use crate::call::call;
 use crate::cube::IDENTITY;
 use crate::frame::{self, Call};
@@ -21,34 +19,12 @@ pub const SORTS: [(&str, usize); 10] = [
     ("refused 11", 0),
 ];
 
-/// How many of each sort, for one n.
-#[derive(Clone, Copy, Debug, Default)]
-pub struct Growths(pub [u64; SORTS.len()]);
-
-impl AddAssign for Growths {
-    fn add_assign(&mut self, other: Growths) {
-        self.0.iter_mut().zip(other.0).for_each(|(sum, count)| *sum += count);
-    }
-}
-
-impl Growths {
-    /// Counts a growth, given the number that was returned and the record
-    /// before and after it.
-    pub fn add(&mut self, frame: &[u8], number: u32, before: &Record, after: &Record) {
-        if let Ok(Call::Grow { job, k, .. }) = frame::read(frame) {
-            let sorts = sorts(frame, (job, k), number, before, after);
-            self.0.iter_mut().zip(sorts).for_each(|(count, is)| *count += u64::from(is));
-        }
-    }
-}
-
-fn sorts(
-    frame: &[u8],
-    (job, k): (u16, u8),
-    number: u32,
-    before: &Record,
-    after: &Record,
-) -> [bool; SORTS.len()] {
+/// Of which sorts a call is, given the number that was returned and the record
+/// before and after it; of none if it is no growth.
+pub fn sorts(frame: &[u8], number: u32, before: &Record, after: &Record) -> [bool; SORTS.len()] {
+    let Ok(Call::Grow { job, k, .. }) = frame::read(frame) else {
+        return [false; SORTS.len()];
+    };
     let holds = |record: &Record, node: u32| record::holder(record, node) == job;
     let nodes = 0..1 << record::dimension(before);
     let own: Vec<u32> = nodes.clone().filter(|node| holds(before, *node)).collect();

@@ -10,6 +10,7 @@
 
 pub mod call;
 pub mod choose;
+pub mod counts;
 pub mod cube;
 pub mod drawn;
 pub mod family;
@@ -22,6 +23,7 @@ mod noise;
 pub mod record;
 pub mod rng;
 pub mod session;
+pub mod stars;
 pub mod tally;
 
 pub use call::call;

@@ -6,9 +6,9 @@ use std::process::Command;
 use cube_reference::call;
 use cube_reference::drawn::{Drawn, List};
 use cube_reference::gen::write_log;
-use cube_reference::growths::SORTS;
 use cube_reference::log::run;
 use cube_reference::session::fresh;
+use cube_reference::{growths, stars};
 
 use crate::support::at;
 
@@ -135,11 +135,13 @@ fn relabels_are_drawn_with_every_kind_of_d() {
     }
 }
 
-/// Each sort of growth comes at every n where it can.
+/// Each sort of growth comes at every n where it can, and each sort of call by
+/// star bits.
 #[test]
-fn growths_are_drawn_of_every_sort() {
+fn calls_are_drawn_of_every_sort() {
     for (n, drawn) in drawn().into_iter().enumerate() {
-        for ((sort, least), count) in SORTS.into_iter().zip(drawn.growths.0) {
+        let growths = growths::SORTS.into_iter().zip(drawn.growths.0);
+        for ((sort, least), count) in growths.chain(stars::SORTS.into_iter().zip(drawn.stars.0)) {
             assert!(n < least || count >= 10, "n {n}, {sort}: {count}");
         }
     }

@@ -3,9 +3,10 @@
 
 use std::collections::BTreeSet;
 
+use cube_reference::drawn::List;
 use cube_reference::frame::{Call, Reply};
-use cube_reference::growths::{Growths, SORTS};
 use cube_reference::session::{calls, damaged, frame_of, make, start, sum, DAMAGES, EACH, RIGHT};
+use cube_reference::{growths, stars};
 
 use crate::support::SIZE;
 
@@ -55,17 +56,18 @@ fn the_sessions_have_every_kind_accepted_and_every_strategy_granted() {
 }
 
 #[test]
-fn the_sessions_have_every_sort_of_growth() {
-    let mut sorts = Growths::default();
+fn the_sessions_have_every_sort_of_growth_and_of_star_bits() {
+    let mut list = List::default();
     for n in 0..=10 {
         let mut record = start(n);
         for call in calls(n) {
             let before = record;
             let number = make(&mut record, call).number;
-            sorts.add(&frame_of(call), number, &before, &record);
+            list.add(&frame_of(call), number, &before, &record);
         }
     }
-    for ((sort, _), count) in SORTS.iter().zip(sorts.0) {
+    let growths = growths::SORTS.iter().zip(list.drawn.growths.0);
+    for ((sort, _), count) in growths.chain(stars::SORTS.iter().zip(list.drawn.stars.0)) {
         assert_ne!(count, 0, "{sort}");
     }
 }
