@@ -1,11 +1,11 @@
 //! What is fed: frames, reply buffers and records, right and wrong.
 
 use cube_reference::health::Area;
-use cube_reference::record::{GOOD, SIZE};
+use cube_reference::record::{dimension, set_condition, set_holder, set_map, set_stars, Record};
+use cube_reference::record::{GOOD, HOLDERS, NODES, SIZE, STARS};
 use cube_reference::rng::Rng;
-
-/// Where a record's conditions are.
-const CONDITIONS: usize = 2064;
+use cube_reference::session::fresh;
+use cube_reference::IDENTITY;
 
 pub fn bytes(rng: &mut Rng, count: usize) -> Vec<u8> {
     (0..count).map(|_| rng.number() as u8).collect()
@@ -63,48 +63,82 @@ const ANY: [(u32, u32); 11] =
     [(1, 0), (1, 0), (1, 0), (1, 0), (2, 0), (2, 0), (2, 0), (2, 0), (1, 1), (2, 2), (8, 8)];
 
 /// A record as "Node and record" says, which perhaps no list of calls leaves:
-/// any map, any holders or none below 2^n, and any conditions there or in a
-/// small subcube alone, the other nodes being good.
-pub fn valid_record(rng: &mut Rng, n: u32) -> Vec<u8> {
-    let mut record = vec![0; SIZE];
-    assert_eq!(cube_reference::setup(&mut record, n), 0);
+/// any map, any holders or none below 2^n, any star bits where one is, and any
+/// conditions there or in a small subcube alone, the other nodes being good.
+pub fn valid_record(rng: &mut Rng, n: u32) -> Record {
+    let (mut record, mut map) = (fresh(n), IDENTITY);
     for i in (1..n as usize).rev() {
-        let j = rng.below(i as u32 + 1) as usize;
-        record.swap(5 + i, 5 + j);
+        map.swap(i, rng.below(i as u32 + 1) as usize);
     }
+    set_map(&mut record, &map);
     let jobs = 1 + rng.below(6);
     let busy = rng.pick(&[0, 0, 0, 1, 2, 4, 16, 1000]);
     let (area, any) = (Area::any(rng, n), rng.pick(&ANY));
-    for node in 0..1usize << n {
-        let is_any = area.hits(rng, node as u32, any);
-        record[CONDITIONS + node] = if is_any { rng.below(3) as u8 } else { GOOD };
+    for node in 0..1 << n {
+        let is_any = area.hits(rng, node, any);
+        set_condition(&mut record, node, if is_any { rng.below(3) as u8 } else { GOOD });
         if busy != 0 && rng.one_in(busy) {
-            let job = match rng.below(8) {
-                0 => 65535,
-                _ => rng.below(jobs + 1) as u16,
-            };
-            record[16 + 2 * node..][..2].copy_from_slice(&job.to_le_bytes());
+            hold(rng, &mut record, node, jobs);
         }
     }
     record
 }
 
-/// One byte changed, anywhere or in the head, or another size.
-pub fn damaged(rng: &mut Rng, mut record: Vec<u8>) -> Vec<u8> {
-    match rng.below(8) {
-        0 => record.truncate(rng.below(SIZE as u32) as usize),
+/// Makes a job, perhaps none, the holder of a node. A held one gets any star
+/// bits.
+fn hold(rng: &mut Rng, record: &mut Record, node: u32, jobs: u32) {
+    let job = match rng.below(8) {
+        0 => 65535,
+        _ => rng.below(jobs + 1) as u16,
+    };
+    set_holder(record, node, job);
+    if job != 0 {
+        let any = [0, 1 << rng.below(16), rng.number() as u16];
+        set_stars(record, node, rng.pick(&any));
+    }
+}
+
+/// Another size, a byte changed in the head or anywhere, star bits where there
+/// is no holder, or what a record was without star bits.
+pub fn damaged(rng: &mut Rng, mut record: Record) -> Vec<u8> {
+    match rng.below(12) {
+        0 => record[..rng.below(SIZE as u32) as usize].to_vec(),
         1 => {
             let more = 1 + rng.below(4) as usize;
-            record.extend(bytes(rng, more));
+            [&record[..], &bytes(rng, more)].concat()
         }
         2..5 => {
-            let at = rng.below(16) as usize;
+            let at = rng.below(HOLDERS as u32) as usize;
             record[at] = rng.number() as u8;
+            record.to_vec()
         }
+        5..8 => starred(rng, record).to_vec(),
+        8 => without_stars(rng, &record),
         _ => {
             let at = rng.below(SIZE as u32) as usize;
             record[at] = rng.pick(&[1, 2, 3, 255]);
+            record.to_vec()
         }
     }
+}
+
+/// A star bit at a node, below 2^n or beyond, that has no holder then.
+fn starred(rng: &mut Rng, mut record: Record) -> Record {
+    let (nodes, all) = (1 << dimension(&record), NODES as u32);
+    let (first, end) = if nodes < all && rng.one_in(2) { (nodes, all) } else { (0, nodes) };
+    let any = first + rng.below(end - first);
+    let node = rng.pick(&[first, any, end - 1]);
+    set_holder(&mut record, node, 0);
+    set_stars(&mut record, node, 1 << rng.below(16));
     record
+}
+
+/// Kind 0x0001, or the bytes before the star bits, or both with their length.
+fn without_stars(rng: &mut Rng, record: &Record) -> Vec<u8> {
+    let old = [&(STARS as u16).to_le_bytes()[..], &[1, 0], &record[4..STARS]].concat();
+    match rng.below(3) {
+        0 => [&record[..2], &[1, 0], &record[4..]].concat(),
+        1 => record[..STARS].to_vec(),
+        _ => old,
+    }
 }

@@ -49,6 +49,7 @@ fn list(seed: u64, seen: &mut Seen) -> Result<u64, String> {
     let n = (seed % 11) as u32;
     let rng = &mut Rng::new(seed ^ 0x5ca1_ab1e);
     let mut pair = start(rng, n)?;
+    seen.add_start(&pair.reference);
     let count = 60 + u64::from(rng.below(400));
     let mut log = Log::new(seed, count, &pair.cube(n));
     let mut list = List::default();
@@ -76,7 +77,7 @@ fn start(rng: &mut Rng, n: u32) -> Result<Pair, String> {
             let record = input::valid_record(rng, n);
             Ok(Pair::new(input::damaged(rng, record)))
         }
-        1..8 => Ok(Pair::new(input::valid_record(rng, n))),
+        1..8 => Ok(Pair::new(input::valid_record(rng, n).to_vec())),
         _ => fresh(rng, n),
     }
 }

@@ -3,7 +3,8 @@
 use std::fmt::{self, Display};
 
 use cube_reference::drawn::Drawn;
-use cube_reference::growths::SORTS;
+use cube_reference::record::{dimension, holder, is_valid, set_stars, stars, Record, NODES};
+use cube_reference::{growths, stars as star_bits};
 
 /// So often at least is each number to be met.
 const NUMBER: u64 = 20;
@@ -16,8 +17,12 @@ const OF_GROWTHS: [usize; 11] = [0, 1, 2, 3, 5, 6, 7, 9, 11, 14, 17];
 /// silent and faulty nodes at every n from 2.
 const RELABEL: u64 = 10;
 
-/// So often at least is each sort of growth to come at every n where it can.
-const GROWTH: u64 = 5;
+/// So often at least is each sort of growth, and of call by star bits, to come
+/// at every n where it can.
+const SORT: u64 = 5;
+
+/// So many lists at least are to begin where star bits alone make it no record.
+const STARRED: u64 = 5;
 
 #[derive(Default)]
 pub struct Seen {
@@ -25,6 +30,9 @@ pub struct Seen {
     numbers: [u64; 18],
     growths: [u64; 18],
     pub drawn: [Drawn; 11],
+    /// Lists that begin where star bits alone make it no record: those of a
+    /// node below 2^n, or of one beyond.
+    starred: [u64; 2],
 }
 
 impl Seen {
@@ -34,9 +42,16 @@ impl Seen {
         self.growths[number as usize] += u64::from(is_growth);
     }
 
+    /// Counts what a list begins at.
+    pub fn add_start(&mut self, bytes: &[u8]) {
+        let starred = starred(bytes);
+        self.starred.iter_mut().zip(starred).for_each(|(count, is)| *count += u64::from(is));
+    }
+
     /// What came too seldom, in words.
     pub fn rare(&self) -> Option<String> {
-        self.rare_number().or_else(|| self.rare_relabel()).or_else(|| self.rare_growth())
+        let by_call = self.rare_number().or_else(|| self.rare_relabel());
+        by_call.or_else(|| self.rare_sort()).or_else(|| self.rare_start())
     }
 
     fn rare_number(&self) -> Option<String> {
@@ -46,16 +61,21 @@ impl Seen {
         by_any.map(told).or_else(|| by_growth().map(|number| told(number) + " by growths"))
     }
 
-    fn rare_growth(&self) -> Option<String> {
+    fn rare_sort(&self) -> Option<String> {
         for (n, drawn) in self.drawn.iter().enumerate() {
-            let sorts = SORTS.iter().zip(drawn.growths.0).filter(|((_, least), _)| n >= *least);
-            if let Some(((sort, _), count)) = sorts.min_by_key(|(_, count)| *count) {
-                if count < GROWTH {
-                    return Some(format!("at n {n} growths came {count} times {sort}"));
-                }
+            let growths = growths::SORTS.iter().zip(drawn.growths.0);
+            let sorts = growths.chain(star_bits::SORTS.iter().zip(drawn.stars.0));
+            let mut rare = sorts.filter(|((_, least), count)| n >= *least && *count < SORT);
+            if let Some(((sort, _), count)) = rare.next() {
+                return Some(format!("at n {n} came {count} times: {sort}"));
             }
         }
         None
+    }
+
+    fn rare_start(&self) -> Option<String> {
+        let rare = self.starred.iter().any(|count| *count < STARRED);
+        rare.then(|| format!("lists began with wrong star bits {:?} times", self.starred))
     }
 
     fn rare_relabel(&self) -> Option<String> {
@@ -83,9 +103,26 @@ impl Display for Seen {
         write!(to, "all n {}, between {}, of these {} by ", sum.all, sum.between, sum.mixed)?;
         write!(to, "silent and faulty nodes together, then {} grants; ", sum.after_mixed)?;
         write!(to, "growths by number {:?}", self.growths)?;
-        for ((sort, _), count) in SORTS.iter().zip(sum.growths.0) {
+        for ((sort, _), count) in growths::SORTS.iter().zip(sum.growths.0) {
+            write!(to, ", {count} {sort}")?;
+        }
+        write!(to, "; star bits: {:?} lists begun with wrong ones", self.starred)?;
+        for ((sort, _), count) in star_bits::SORTS.iter().zip(sum.stars.0) {
             write!(to, ", {count} {sort}")?;
         }
         Ok(())
     }
+}
+
+/// Whether star bits alone make this no record: those of a node below 2^n, or
+/// of one beyond.
+fn starred(bytes: &[u8]) -> [bool; 2] {
+    let Ok(record) = Record::try_from(bytes) else { return [false; 2] };
+    let is_wrong = |node: &u32| holder(&record, *node) == 0 && stars(&record, *node) != 0;
+    let wrong: Vec<u32> = (0..NODES as u32).filter(is_wrong).collect();
+    let mut mended = record;
+    wrong.iter().for_each(|node| set_stars(&mut mended, *node, 0));
+    let is_below = |node: &u32| *node < 1 << dimension(&mended);
+    let alone = is_valid(&mended);
+    [alone && wrong.iter().any(is_below), alone && !wrong.iter().all(is_below)]
 }
