@@ -1,14 +1,14 @@
 //! One cube of the proved library.
 
 use cube_proved as proved;
+pub use cube_reference::record::{HOLDERS, NODES, SIZE};
 
 #[derive(Clone)]
 pub struct Cube {
     pub record: Vec<u8>,
 }
 
-/// The size of a record, and the byte that buffers hold before a call.
-pub const SIZE: usize = 3088;
+/// The byte that buffers hold before a call.
 pub const BEFORE: u8 = 0xee;
 
 impl Cube {

@@ -20,11 +20,14 @@ use section::{Guide, Outcome, Section};
 
 type Check = fn(&Guide, &Section) -> Outcome;
 
-const SECTIONS: [(&str, Check); 12] = [
+const SECTIONS: [(&str, Check); 15] = [
     ("Formats", records::little_endian),
     ("The record", records::layout),
     ("Example: a record after two calls", records::after_calls),
     ("Example: a record after a relabel", records::after_calls),
+    ("Example: a record after a grant", records::after_calls),
+    ("Example: a record after a growth", records::after_calls),
+    ("Example: a record after a release", records::after_calls),
     ("Bytes that are no record", records::no_record),
     ("Frames", calls::frames),
     ("Replies", calls::replies),

@@ -2,7 +2,7 @@
 
 use cube_proved as proved;
 
-use crate::cube::{Cube, BEFORE, SIZE};
+use crate::cube::{Cube, BEFORE, HOLDERS, SIZE};
 use crate::formula;
 use crate::section::{after, byte_strings, bytes, decimals, ensure, hex, number, same, Outcome};
 use crate::section::{Guide, Row, Section};
@@ -13,10 +13,12 @@ const SMALLEST: [&str; 4] = ["number", "record", "frame", "reply buffer afterwar
 const ORDER: [usize; 15] = [1, 2, 3, 4, 5, 6, 7, 8, 9, 10, 11, 17, 12, 13, 14];
 
 /// The table has the numbers in order, and each is met by a row of the smallest
-/// calls, whose reply is as the table says.
+/// calls, whose reply is as the table says; these leave the whole record.
 pub fn in_order(guide: &Guide, section: &Section) -> Outcome {
     let rows = section.rows(&["number", "cause", "met by", "reply"])?;
     let smallest = guide.section("A smallest call that meets each")?.rows(&SMALLEST)?;
+    let left = after(section.line_with("Every refusal leaves")?, "leaves all ")?;
+    ensure(left == SIZE, || format!("{left} bytes of the record are said to be left"))?;
     for ((line, cells), due) in rows.iter().zip(ORDER) {
         ensure(number(&cells[0])? == due, || format!("line {line}: not {due}"))?;
         let met: Vec<&Row> = smallest.iter().filter(|(_, row)| row[0] == cells[0]).collect();
@@ -114,7 +116,7 @@ fn none_free(n: u16, k: u16, strategy: usize) -> Vec<(usize, i64)> {
     let fields = [1, 0, k as u8, strategy as u8];
     let call = |kind, holder| {
         let mut cube = Cube::fresh(n.into());
-        cube.record[16] = holder;
+        cube.record[HOLDERS] = holder;
         let (number, reply) = cube.call(&proved::frame::frame(kind, &fields), 12);
         (number, i64::from(u16::from_le_bytes([reply[6], reply[7]])))
     };
@@ -139,6 +141,23 @@ fn largest_count(section: &Section, counts: &[Count]) -> Result<(), String> {
 /// What set-up returns and leaves: the head that is shown and zeros, or the
 /// buffer as it was.
 pub fn set_up(_: &Guide, section: &Section) -> Outcome {
+    let right = after(section.line_with("a fresh cube")?, "any buffer of ")?;
+    ensure(right == SIZE, || format!("it is said to take {right} bytes"))?;
+    let shown = after(section.line_with("comes before")?, "The head for n = ")?;
+    let [[head]] = section.blocks()[..] else { return Err("there isn't one head".to_string()) };
+    let mut fresh = hex(head);
+    ensure(fresh.len() == HOLDERS, || format!("the head has {} bytes", fresh.len()))?;
+    fresh.resize(SIZE, 0);
+    let cases = set_up_cases(section)?;
+    for (size, n, said) in &cases {
+        set_up_case(*size, *n, *said, &fresh, shown)?;
+    }
+    Ok(cases.len())
+}
+
+/// The buffers' sizes and the n that are tried, each with the number that the
+/// text or the table says.
+fn set_up_cases(section: &Section) -> Result<Vec<(usize, usize, usize)>, String> {
     let line = section.line_with("comes before")?;
     let (wrong, n) = (after(line, "a buffer of ")?, after(line, "with n = ")?);
     let largest = after(line, "above ")?;
@@ -150,26 +169,21 @@ pub fn set_up(_: &Guide, section: &Section) -> Outcome {
         let returned = number(&cells[0])?;
         match cells[1].as_str() {
             "" => cases.extend((0..=largest).map(|n| (SIZE, n, returned))),
-            "record_len is not 3088" => {
-                cases.extend([wrong, 0, SIZE + 1].map(|size| (size, largest, returned)));
-            }
             "n above 10" => {
                 cases.extend(above.iter().chain([&n]).map(|n| (SIZE, *n, returned)));
             }
+            cause if cause == format!("record_len is not {SIZE}") => {
+                cases.extend([wrong, 0, SIZE + 1].map(|size| (size, largest, returned)));
+            }
             cause => return Err(format!("line {row}: '{cause}' isn't understood")),
         }
-        let kept = cells[2] == "as it was";
-        ensure(kept == (returned != 0), || format!("line {row}: the buffer afterwards"))?;
+        let said = match returned {
+            0 => after(&cells[2], "the head below, then ")? == SIZE - HOLDERS,
+            _ => cells[2] == "as it was",
+        };
+        ensure(said, || format!("line {row}: the buffer afterwards"))?;
     }
-    let shown = after(line, "The head for n = ")?;
-    let [[head]] = section.blocks()[..] else { return Err("there isn't one head".to_string()) };
-    let mut fresh = hex(head);
-    ensure(fresh.len() == 16, || format!("the head has {} bytes", fresh.len()))?;
-    fresh.resize(SIZE, 0);
-    for (size, n, said) in &cases {
-        set_up_case(*size, *n, *said, &fresh, shown)?;
-    }
-    Ok(cases.len())
+    Ok(cases)
 }
 
 fn set_up_case(

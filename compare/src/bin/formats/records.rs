@@ -1,9 +1,9 @@
-//! The record: its layout, the two examples, and bytes that are no record.
+//! The record: its layout, the examples, and bytes that are no record.
 
 use crate::calls;
-use crate::cube::{Cube, BEFORE, SIZE};
+use crate::cube::{Cube, BEFORE, HOLDERS, NODES, SIZE};
 use crate::section::{after, byte_strings, bytes, decimals, ensure, hex, number, same, Outcome};
-use crate::section::{fields_end, Guide, Section};
+use crate::section::{fields_end, Guide, Row, Section};
 
 /// The example of a field of two bytes.
 pub fn little_endian(_: &Guide, section: &Section) -> Outcome {
@@ -13,12 +13,14 @@ pub fn little_endian(_: &Guide, section: &Section) -> Outcome {
     Ok(1)
 }
 
-/// The fields follow each other to the record's end, and where the bytes of one
-/// are given every fresh record has them.
+/// The fields follow each other to the record's end, where the last node has its
+/// places, and where the bytes of one are given every fresh record has them.
 pub fn layout(_: &Guide, section: &Section) -> Outcome {
     let rows = section.rows(&["offset", "size", "field", "allowed values"])?;
+    let said = after(section.line_with("for every n")?, "It has ")?;
     let end = fields_end(&rows)?;
-    ensure(end == SIZE, || format!("the fields end at {end}"))?;
+    ensure([end, said] == [SIZE; 2], || format!("the fields end at {end} of {said}"))?;
+    last_node(section, &rows)?;
     let mut tried = 0;
     for (line, cells) in rows {
         let at = number(&cells[0])?;
@@ -33,6 +35,18 @@ pub fn layout(_: &Guide, section: &Section) -> Outcome {
     Ok(tried)
 }
 
+/// The last node's places are those before the ends of the nodes' fields.
+fn last_node(section: &Section, rows: &[Row]) -> Result<(), String> {
+    let (_, said) =
+        section.line_with("The last node")?.split_once("node, 1023").unwrap_or_default();
+    let mut places = Vec::new();
+    for (_, cells) in rows {
+        let (at, size) = (number(&cells[0])?, number(&cells[1])?);
+        places.extend((size >= NODES).then_some(at + size - size / NODES));
+    }
+    ensure(decimals(said) == places, || format!("the last node's places are {places:?}"))
+}
+
 /// The record after as many calls of the session as the text says: its head,
 /// the rows, and zeros elsewhere, from a place on if the text says one.
 pub fn after_calls(guide: &Guide, section: &Section) -> Outcome {
@@ -44,12 +58,12 @@ pub fn after_calls(guide: &Guide, section: &Section) -> Outcome {
 
     let [[head]] = section.blocks()[..] else { return Err("there isn't one head".to_string()) };
     let head = hex(head);
-    ensure(head.len() == 16, || format!("the head has {} bytes", head.len()))?;
-    same("head", &record[..16], &head)?;
+    ensure(head.len() == HOLDERS, || format!("the head has {} bytes", head.len()))?;
+    same("head", &record[..HOLDERS], &head)?;
 
     let zeros = section.line_with("Every other byte")?;
     let from = if zeros.contains(" from ") { after(zeros, " from ")? } else { 0 };
-    ensure(from <= 16 && zeros.ends_with("is 00."), || format!("'{zeros}' isn't understood"))?;
+    ensure(from <= HOLDERS && zeros.ends_with("is 00."), || format!("'{zeros}' isn't understood"))?;
     let rows = section.rows(&["offset", "bytes", "meaning"])?;
     let mut said = head[..from].to_vec();
     said.resize(SIZE, 0);
@@ -87,18 +101,31 @@ pub fn no_record(guide: &Guide, section: &Section) -> Outcome {
         cube.record.resize(size, 0);
         tried += refused(&cube, &frames).map_err(|what| format!("{size} bytes: {what}"))?;
     }
-    let mut cube = Cube::fresh(n);
+    Ok(tried + no_fault(section, n, right, &frames)?)
+}
+
+/// A fresh record passes, so does one with the holder of this sentence, and one
+/// with all changes that are no fault.
+fn no_fault(section: &Section, n: usize, right: &str, frames: &[Vec<u8>]) -> Outcome {
+    let fresh = Cube::fresh(n);
+    let [mut held, mut changed] = [fresh.clone(), fresh.clone()];
     let row = [after(right, " at ")?.to_string(), right.to_string()];
     let job = (after(right, "job ")? as u16).to_le_bytes();
     same("the holder that is no fault", &job, &bytes(right)?)?;
-    place(&mut cube.record, &row)?;
-    let (number, _) = cube.call(&[], 12);
-    ensure(number == 3, || format!("'{right}': an empty frame returned {number}"))?;
-    for frame in &frames {
-        let (number, _) = Cube::fresh(n).call(frame, 12);
-        ensure(number != 1, || format!("{frame:02x?} on a fresh record returned 1"))?;
+    place(&mut held.record, &row)?;
+    for (_, cells) in section.rows(&["offset", "bytes", "what is no fault"])? {
+        place(&mut changed.record, cells)?;
     }
-    Ok(tried)
+    Ok(passes(&fresh, frames)? + passes(&held, frames)? + passes(&changed, frames)?)
+}
+
+/// No call on it is refused 1.
+fn passes(cube: &Cube, frames: &[Vec<u8>]) -> Outcome {
+    for frame in frames {
+        let (number, _) = cube.clone().call(frame, 12);
+        ensure(number != 1, || format!("{frame:02x?} on a right record returned 1"))?;
+    }
+    Ok(frames.len())
 }
 
 fn refused(cube: &Cube, frames: &[Vec<u8>]) -> Outcome {
