@@ -9,8 +9,9 @@ use crate::relabels::RECORDS;
 use crate::rows::{Record, Row};
 use cube_proved::frame::{grow, request};
 use cube_proved::STRATEGIES;
-use cube_reference::record::{holder, set_condition, set_holder, FAULTY, GOOD};
+use cube_reference::record::{holder, set_condition, set_holder, set_stars, FAULTY, GOOD};
 use cube_reference::rng::Rng;
+use cube_reference::session::fresh;
 use cube_reference::{node, relabel, Map, IDENTITY};
 use Own::{Granted, Labels};
 
@@ -23,7 +24,8 @@ enum Own {
     /// What the same strategy granted it: a dimension less than it asks for
     /// now, or as many less as it took.
     Granted,
-    /// A name, and the conditions of the labels that are the job's.
+    /// A name, and the conditions of the labels that are the job's; the star
+    /// bits of each are others.
     Labels(&'static str, fn(&Request, u32) -> Option<u8>),
 }
 
@@ -82,6 +84,7 @@ impl Own {
                 for x in 0..1 << asked.n {
                     if let Some(condition) = condition(asked, x) {
                         set_holder(record, node(map, x), JOB);
+                        set_stars(record, node(map, x), x as u16);
                         set_condition(record, node(map, x), condition);
                     }
                 }
@@ -141,22 +144,21 @@ pub fn all() -> Vec<(String, Vec<Row>)> {
 }
 
 /// A record with all nodes good, where about a fourth is the job's, the last
-/// always, and if `others` is said another fourth is other jobs', the first
-/// always.
+/// always, and if `others` is said another fourth is another job's, the first
+/// always. Held nodes have any star bits.
 fn draw(rng: &mut Rng, n: u32, others: bool) -> Record {
-    let (mut record, last) = ([0; 3088], (1 << n) - 1);
-    cube_reference::setup(&mut record, n);
+    let (mut record, last) = (fresh(n), (1 << n) - 1);
     for x in 0..=last {
         set_condition(&mut record, x, GOOD);
-        match rng.below(4) {
-            0 if x > 0 => set_holder(&mut record, x, JOB),
-            1 if others => set_holder(&mut record, x, 100),
-            _ => {}
-        }
-    }
-    set_holder(&mut record, last, JOB);
-    if others {
-        set_holder(&mut record, 0, 100);
+        let job = match rng.below(4) {
+            _ if x == last => JOB,
+            _ if x == 0 && others => 100,
+            0 if x > 0 => JOB,
+            1 if others => 100,
+            _ => continue,
+        };
+        set_holder(&mut record, x, job);
+        set_stars(&mut record, x, rng.number() as u16);
     }
     record
 }

@@ -7,5 +7,6 @@ pub mod parts;
 pub mod patterns;
 pub mod relabels;
 pub mod rows;
+pub mod stars;
 pub mod time;
 mod words;

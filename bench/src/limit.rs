@@ -138,12 +138,12 @@ mod tests {
     use cube_proved::frame::{grow, request};
     use cube_reference::record::{set_condition, set_holder, set_map};
     use cube_reference::rng::Rng;
+    use cube_reference::session::fresh;
     use cube_reference::IDENTITY;
 
     /// A record with any map, and with one node in so many not free.
     fn record(rng: &mut Rng, odds: u32) -> Record {
-        let mut record = [0; 3088];
-        cube_reference::setup(&mut record, 10);
+        let mut record = fresh(10);
         let mut map = IDENTITY;
         (1..10).for_each(|i| map.swap(i, rng.below(i as u32 + 1) as usize));
         set_map(&mut record, &map);

@@ -2,7 +2,7 @@
 
 use crate::options::Options;
 use crate::rows::{self, Row};
-use crate::{growths, patterns, relabels};
+use crate::{growths, patterns, relabels, stars};
 
 /// Rows with a title, and whether each of them is of interest by itself.
 pub struct Part {
@@ -22,6 +22,7 @@ fn calls() -> Vec<Part> {
         part("each growth", SOME.into_iter().flat_map(each_growth).collect()),
         part("relabel by what isn't good", SOME.into_iter().flat_map(relabels::rows).collect()),
         part("on a relabelled cube", SOME.into_iter().map(rows::relabelled).collect()),
+        part("by holders and star bits", SOME.into_iter().flat_map(stars::rows).collect()),
         part("how cost grows with n", (0..=10).flat_map(rows::grown).collect()),
     ]
 }

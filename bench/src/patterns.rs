@@ -6,8 +6,9 @@ use crate::rows::{Record, Row};
 use cube_proved::frame::{release, request};
 use cube_proved::STRATEGIES;
 use cube_reference::family::{family, Subcube};
-use cube_reference::record::{holder, set_condition, set_holder, set_map, FAULTY, GOOD};
+use cube_reference::record::{holder, set_condition, set_holder, set_map, set_stars, FAULTY, GOOD};
 use cube_reference::rng::Rng;
+use cube_reference::session::fresh;
 use cube_reference::{node, relabel, Map, IDENTITY};
 use Other::{Faulty, Held, Silent};
 
@@ -64,8 +65,7 @@ impl Request<'_> {
 
 /// A cube after some hundred requests and releases, about half of it held.
 pub fn used(n: u32, strategy: usize) -> Record {
-    let (mut record, mut rng) = ([0; 3088], Rng::new(22));
-    cube_reference::setup(&mut record, n);
+    let (mut record, mut rng) = (fresh(n), Rng::new(22));
     (0..1 << n).for_each(|node| set_condition(&mut record, node, GOOD));
     for job in 1..=300 {
         let k = rng.below(n.max(2) - 1) as u8;
@@ -154,11 +154,12 @@ pub const MIXED: [Pattern; 9] = [
     pattern("half held, by a session", Held, |r, x| holder(r.used, x) == 0),
 ];
 
-/// A record with the labels of a pattern free.
+/// A record with the labels of a pattern free; a held one has the job and the
+/// star bits of its pair of neighbours.
 pub fn record(request: &Request, pattern: &Pattern, map: &Map) -> Record {
-    let mut record = [0; 3088];
-    cube_reference::setup(&mut record, request.n);
+    let mut record = fresh(request.n);
     set_map(&mut record, map);
+    let pair = node(map, 1) as u16;
     for x in 0..1 << request.n {
         let node = node(map, x);
         let free = (pattern.free)(request, x);
@@ -169,6 +170,7 @@ pub fn record(request: &Request, pattern: &Pattern, map: &Map) -> Record {
         }
         if matches!(pattern.other, Held) && !free {
             set_holder(&mut record, node, 100 + (x / 2) as u16);
+            set_stars(&mut record, node, pair);
         }
     }
     record

@@ -5,6 +5,7 @@ use crate::rows::{Record, Row};
 use cube_proved::frame::relabel;
 use cube_reference::record::{set_condition, FAULTY, GOOD, UNCONFIRMED as SILENT};
 use cube_reference::rng::Rng;
+use cube_reference::session::fresh;
 
 /// The condition of a node, in a cube of dimension n.
 type Condition = fn(&mut Rng, u32, u32) -> u8;
@@ -53,8 +54,7 @@ const DRAWN: [(&str, Condition); 4] = [
 pub const RECORDS: usize = 512;
 
 fn record(rng: &mut Rng, n: u32, condition: Condition) -> Record {
-    let mut record = [0; 3088];
-    cube_reference::setup(&mut record, n);
+    let mut record = fresh(n);
     (0..1 << n).for_each(|x| set_condition(&mut record, x, condition(rng, n, x)));
     record
 }

@@ -3,12 +3,12 @@
 use cube_proved::frame::{fault, frame, good, grow, relabel, release, repaired, request};
 use cube_proved::STRATEGIES;
 use cube_reference as reference;
+pub use cube_reference::record::Record;
+use cube_reference::session::fresh;
 use std::fmt;
 
 /// The frame call of a program.
 pub type Call = fn(&mut [u8], &[u8], &mut [u8]) -> u32;
-
-pub type Record = [u8; 3088];
 
 /// A call that is timed on each of these records in turn: often on one alone.
 pub struct Row {
@@ -40,8 +40,7 @@ impl fmt::Display for Row {
 
 /// A row on the record that these calls leave.
 fn row(name: &str, n: u32, before: Vec<Vec<u8>>, call: Vec<u8>) -> Row {
-    let mut start = [0; 3088];
-    reference::setup(&mut start, n);
+    let mut start = fresh(n);
     for frame in before {
         reference::call(&mut start, &frame, &mut [0; 12]);
     }

@@ -5,7 +5,7 @@ use std::hint::black_box;
 use std::time::{Duration, Instant};
 
 /// The records of a batch: few enough to stay in the processor's first cache.
-const BATCH: usize = 8;
+const BATCH: usize = 4;
 
 /// Nanoseconds a turn, over at least 100 microseconds. A batch of records is
 /// made ready before it is timed, so that no turn waits for its record's copy.

@@ -1,7 +1,7 @@
 //! Which labels are free, as bits of words, and what is done to all of them at once.
 
 use crate::rows::Record;
-use cube_reference::record;
+use cube_reference::record::{self, CONDITIONS, HOLDERS};
 use std::array::from_fn;
 use std::ops::Range;
 
@@ -23,8 +23,8 @@ impl Labels<16> {
     /// The labels that are free by a record of n = 10: good, and with one of
     /// these holders.
     pub fn free<const H: usize>(record: &Record, holders: [u16; H]) -> Labels<16> {
-        let words =
-            from_fn(|w| free_nodes(&record[16 + 128 * w..], &record[2064 + 64 * w..], holders));
+        let (of_nodes, conditions) = (&record[HOLDERS..], &record[CONDITIONS..]);
+        let words = from_fn(|w| free_nodes(&of_nodes[128 * w..], &conditions[64 * w..], holders));
         let mut labels = Labels(words);
         labels.move_digits(record::map(record));
         labels
