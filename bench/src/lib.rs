@@ -1,5 +1,6 @@
 //! Rows of calls, and their times by several programs.
 
+mod given;
 pub mod growths;
 pub mod limit;
 pub mod options;

@@ -1,12 +1,13 @@
-//! The bit-parallel limit: how fast a request or a growth can be decided from a
+//! The bit-parallel limit: how fast a request or a growth can be answered from a
 //! record if 1024 flags are sixteen words and every star is an 'and' with a
 //! shift. It is not proved, and answers for buddy, tree and extended alone.
 //!
 //! It reads conditions, holders and the map from the record, finds the first
-//! free member and its place, or that there is none, and writes the reply. It
-//! takes record and frame for right ones: it makes no test of refusals before
-//! 14, and it doesn't write the record.
+//! free member and its place, or that there is none, and writes the reply and
+//! the holders and star bits of the record. It takes record and frame for right
+//! ones: it makes no test of refusals before 14.
 
+use crate::given::{clear, give};
 use crate::rows::Record;
 use crate::words::Labels;
 use cube_reference::{node, record};
@@ -27,7 +28,7 @@ struct Found {
 /// Answers a request or a growth at n = 10 as `cube_call` does, but for what is
 /// said above.
 pub fn call(record: &mut [u8], frame: &[u8], reply: &mut [u8]) -> u32 {
-    let record: &Record = (&*record).try_into().expect("a record");
+    let record: &mut Record = record.try_into().expect("a record");
     let job = u16::from_le_bytes([frame[4], frame[5]]);
     let (k, strategy) = (u32::from(frame[6]), frame[7]);
     let free = match frame[2] {
@@ -44,6 +45,10 @@ pub fn call(record: &mut [u8], frame: &[u8], reply: &mut [u8]) -> u32 {
         Ok(Found { low, stars, tried }) => {
             let map = record::map(record);
             let (low, stars) = (node(&map, low) as u16, node(&map, stars) as u16);
+            if frame[2] == GROW {
+                clear(record, job);
+            }
+            give(record, job, low, stars);
             write(reply, [12, 0x8001, job, low, stars, tried as u16]);
             0
         }
@@ -136,7 +141,7 @@ fn zeros_before(alpha: u32, places: Range<u32>) -> u32 {
 mod tests {
     use crate::rows::Record;
     use cube_proved::frame::{grow, request};
-    use cube_reference::record::{set_condition, set_holder, set_map};
+    use cube_reference::record::{set_condition, set_holder, set_map, set_stars};
     use cube_reference::rng::Rng;
     use cube_reference::session::fresh;
     use cube_reference::IDENTITY;
@@ -152,6 +157,7 @@ mod tests {
             if rng.one_in(odds) {
                 set_condition(&mut record, node, rng.below(3) as u8);
                 set_holder(&mut record, node, 256 << rng.below(3));
+                set_stars(&mut record, node, rng.number() as u16);
             }
         }
         record
@@ -159,12 +165,12 @@ mod tests {
 
     /// Whether the limit had to answer this, and did as the second program does.
     fn answers(record: Record, frame: &[u8]) -> bool {
-        let [mut ours, mut theirs] = [[0; 12]; 2];
-        let number = cube_reference::call(&mut { record }, frame, &mut theirs);
+        let [mut ours, mut theirs] = [(record, [0; 12]); 2];
+        let number = cube_reference::call(&mut theirs.0, frame, &mut theirs.1);
         if ![0, 14].contains(&number) {
             return false;
         }
-        assert_eq!(super::call(&mut { record }, frame, &mut ours), number);
+        assert_eq!(super::call(&mut ours.0, frame, &mut ours.1), number);
         assert_eq!(ours, theirs, "{frame:?}, {record:?}");
         true
     }

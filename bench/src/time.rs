@@ -78,14 +78,14 @@ impl Times {
     }
 }
 
-/// The programs that time a row. All of them have to give the same numbers and
-/// replies, and the first two the same records; a third writes none.
+/// The programs that time a row. All of them have to give the same numbers,
+/// replies and records.
 fn agreed(row: &Row, programs: Vec<Call>) -> Vec<Call> {
     let first = row.after(programs[0]);
-    for (place, program) in programs.iter().enumerate().skip(1) {
+    for program in &programs[1..] {
         for (ours, theirs) in first.iter().zip(row.after(*program)) {
             assert_eq!((ours.0, ours.1), (theirs.0, theirs.1), "{row}");
-            assert!(place > 1 || ours.2 == theirs.2, "{row}: the records differ");
+            assert!(ours.2 == theirs.2, "{row}: the records differ");
         }
     }
     programs
