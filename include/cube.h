@@ -4,12 +4,20 @@
  * calls and need no heap; they call nothing but memcpy and memset. They may
  * run in several threads at once on different buffers.
  *
- * The record is 3088 bytes that belong to the host: one record for each cube.
- * A frame is one call; the reply is written into a buffer of the host's.
- * The three buffers must not overlap, and each pointer must be valid for its
- * length (a length of 0 goes with any pointer that isn't null).
+ * The record is CUBE_RECORD_SIZE bytes that belong to the host: one record for
+ * each cube. A frame is one call; the reply is written into a buffer of the
+ * host's. The three buffers must not overlap, and each pointer must be valid
+ * for its length (a length of 0 goes with any pointer that isn't null).
  *
  * All fields are two bytes, little-endian, unless said.
+ *
+ * The record has a holder, a condition and star bits for each node x. The star
+ * bits, at CUBE_STARS_AT + 2x, are those of the grant that holds the node, as
+ * its reply has them, in node numbers; 0 if the node is unheld. From set-up on
+ * all nodes of a job have the same, and are its lowest node with each
+ * combination of these bits set. A grant writes them at each node that it
+ * gives; a release writes 0, and so does a growth at the nodes that its job
+ * loses. Past refusal 1 no call goes by them.
  *
  * Frames: length, kind, then
  *   good      0x0101, length 6:  node
@@ -59,6 +67,13 @@
  * From 3 on the refused frame is written too; the record is untouched by every
  * refusal. An accepted call writes the reply's frame, and the record holds the
  * cube after the call.
+ *
+ * The record is one if size, length field and kind are CUBE_RECORD_SIZE and
+ * CUBE_RECORD_KIND, n is at most 10, the map permutes 1 to n and leaves what is
+ * above, the byte behind it is 0, conditions are at most 2, nodes from 2^n up
+ * have holder and condition 0, and unheld nodes, these included, have star
+ * bits 0. Below 2^n any holders pass, and at a held node any star bits. So a
+ * record of kind 0x0001, which has no star bits, is refused.
  */
 #ifndef CUBE_H
 #define CUBE_H
@@ -66,13 +81,24 @@
 #include <stddef.h>
 #include <stdint.h>
 
+/* The record: its size, its kind, and the first byte of three of its parts,
+ * each with an entry for all 1024 nodes: holders and star bits have two bytes
+ * a node, conditions one (0 unconfirmed, 1 good, 2 faulty). */
+enum {
+    CUBE_RECORD_SIZE = 5136,
+    CUBE_RECORD_KIND = 0x0002,
+    CUBE_HOLDERS_AT = 16,
+    CUBE_CONDITIONS_AT = 2064,
+    CUBE_STARS_AT = 3088,
+};
+
 #ifdef __cplusplus
 extern "C" {
 #endif
 
 /* Makes `record` a fresh cube of dimension n, 0 to 10, whatever bytes it had.
- * Returns 0; or 1 if record_len isn't 3088; or 7 if n is above 10. A refused
- * set-up writes nothing. */
+ * Returns 0; or 1 if record_len isn't CUBE_RECORD_SIZE; or 7 if n is above
+ * 10. A refused set-up writes nothing. */
 uint32_t cube_setup(uint8_t *record, size_t record_len, uint32_t n);
 
 /* Carries out one frame on a record and writes its reply. */
