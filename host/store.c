@@ -9,11 +9,11 @@
 #include <sys/file.h>
 #include <unistd.h>
 
-#include "cube.h"
 #include "fail.h"
 
 /* FNV-1a over all that stands before the checksum. It sees every change of a
- * single byte, also of a holder's, where any bytes make a record. */
+ * single byte, also of a holder's or of a held node's star bits, where any
+ * bytes make a record. */
 static uint64_t checksum(const uint8_t *bytes)
 {
     uint64_t sum = 0xcbf29ce484222325;
@@ -71,12 +71,27 @@ static size_t read_all(int file, uint8_t *bytes, size_t size, const char *path)
     return filled;
 }
 
+/* Ends the program if the file's record is of another size or kind, as that of
+ * another release is. Every record begins with its length and its kind, and the
+ * file goes on behind it with as many bytes as here. */
+static void refuse_other_record(const char *path, const uint8_t *bytes, size_t size)
+{
+    bool whole = size >= 4 + AFTER_RECORD && size == field(bytes, 0) + AFTER_RECORD;
+    if (!whole || (field(bytes, 0) == CUBE_RECORD_SIZE && kind(bytes) == CUBE_RECORD_KIND))
+        return;
+    fail(REFUSED_BY_NUMBER, path,
+         "refused 1: the file holds a record of %u bytes, kind 0x%04x; "
+         "this daemon keeps records of %d bytes, kind 0x%04x; the file is left as it is",
+         field(bytes, 0), kind(bytes), CUBE_RECORD_SIZE, (unsigned)CUBE_RECORD_KIND);
+}
+
 /* Whether there is a file; if so its bytes are taken, all tests passed. That
  * the record is one is the library's to say: an empty frame gets 1 from it or
  * 3, and changes nothing. */
 static bool load(struct store *store)
 {
-    uint8_t bytes[STORED_SIZE + 1], reply[REPLY_SIZE];
+    static uint8_t bytes[LONGEST_STORED + 1];
+    uint8_t reply[REPLY_SIZE];
     int file = open(store->file, O_RDONLY | O_CLOEXEC);
     if (file < 0 && errno == ENOENT)
         return false;
@@ -84,9 +99,10 @@ static bool load(struct store *store)
         fail_errno(store->file, "open");
     size_t size = read_all(file, bytes, sizeof bytes, store->file);
     close(file);
+    refuse_other_record(store->file, bytes, size);
     if (size != STORED_SIZE)
         fail(REFUSED_BY_NUMBER, store->file, "refused 1: the file hasn't %d bytes", STORED_SIZE);
-    if (cube_call(bytes, RECORD_SIZE, bytes + RECORD_SIZE, 0, reply, sizeof reply) == 1)
+    if (cube_call(bytes, CUBE_RECORD_SIZE, bytes + CUBE_RECORD_SIZE, 0, reply, sizeof reply) == 1)
         fail(REFUSED_BY_NUMBER, store->file, "refused 1: what the file holds is not a record");
     if (number(bytes + CHECKSUM_AT) != checksum(bytes))
         fail(REFUSED_BY_NUMBER, store->file, "refused 1: the checksum is not that of the file");
@@ -130,7 +146,7 @@ static void save(struct store *store)
 static void set_up(struct store *store, uint32_t n)
 {
     memset(store->bytes, 0, STORED_SIZE);
-    uint32_t refused = cube_setup(store->bytes, RECORD_SIZE, n);
+    uint32_t refused = cube_setup(store->bytes, CUBE_RECORD_SIZE, n);
     if (refused != 0)
         fail(REFUSED_BY_NUMBER, store->file, "refused %u: no cube of dimension %u", (unsigned)refused, (unsigned)n);
     save(store);
@@ -154,7 +170,7 @@ void store_open(struct store *store, const char *file, const uint32_t *n)
 size_t store_call(struct store *store, const uint8_t *frame, size_t size, uint8_t reply[REPLY_SIZE])
 {
     memset(reply, 0, REPLY_SIZE);
-    uint32_t refused = cube_call(store->bytes, RECORD_SIZE, frame, size, reply, REPLY_SIZE);
+    uint32_t refused = cube_call(store->bytes, CUBE_RECORD_SIZE, frame, size, reply, REPLY_SIZE);
     if (refused == 1 || refused == 2)
         fail(REFUSED_BY_NUMBER, store->file, "refused %u while running; the file is that of the last accepted call", (unsigned)refused);
     if (refused == 0) {

@@ -8,15 +8,17 @@
 #include <stddef.h>
 #include <stdint.h>
 
+#include "cube.h"
 #include "wire.h"
 
 /* The file's parts, by their first byte. Count and reply are the greeting. */
 enum {
-    RECORD_SIZE = 3088,
-    COUNT_AT = RECORD_SIZE,
+    COUNT_AT = CUBE_RECORD_SIZE,
     REPLY_AT = COUNT_AT + COUNT_SIZE,
     CHECKSUM_AT = REPLY_AT + REPLY_SIZE,
     STORED_SIZE = CHECKSUM_AT + 8,
+    AFTER_RECORD = STORED_SIZE - CUBE_RECORD_SIZE,
+    LONGEST_STORED = UINT16_MAX + AFTER_RECORD, /* with the longest record that a length field can say */
 };
 
 struct store {
@@ -28,8 +30,9 @@ struct store {
 };
 
 /* Opens the file of a machine, or where none is and n isn't null sets up a
- * fresh cube. Ends the program if the file is damaged, if another daemon has
- * it, or if n isn't given just when it is needed. */
+ * fresh cube. Ends the program if the file is damaged, if its record is of
+ * another size or kind, if another daemon has it, or if n isn't given just when
+ * it is needed. */
 void store_open(struct store *store, const char *file, const uint32_t *n);
 
 /* Makes one call, writes its reply and gives the reply's size. What the call

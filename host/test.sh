@@ -7,6 +7,8 @@ RANDOM=$seed
 bin=target/host
 disk=$(mktemp -d)
 memory=$(mktemp -d -p /dev/shm 2> /dev/null || mktemp -d) # where a sync costs little
+record_size=5136
+file_size=$((record_size + 28)) # with the greeting and the checksum
 
 finish() {
     jobs -p | xargs -r kill 2> /dev/null || true
@@ -58,7 +60,7 @@ client=(timeout 120 "$bin/cube-client") # with the socket's path
 
 same_as_reference() {
     cmp "$folder/lines" "$folder/printed"
-    cmp -n 3088 "$folder/expected" "$record"
+    cmp "$folder/expected" <(head -c "$record_size" "$record")
 }
 
 # The log through the socket of one daemon.
@@ -160,10 +162,10 @@ stops() {
     grep -qF "$2" "$folder/message" || fail "'$2' is not in: $(cat "$folder/message")"
 }
 
-# refused_file MESSAGE: what stands in the record's file is refused by number 1 and stays.
+# refused_file MESSAGE [N]: what stands in the record's file is refused by number 1 and stays.
 refused_file() {
     cp "$record" "$folder/before"
-    stops 1 "cube-host: $record: refused 1: $1" "$record" "$socket"
+    stops 1 "cube-host: $record: refused 1: $1" "$record" "$socket" "${@:2}"
     cmp "$record" "$folder/before"
     [[ ! -e $socket ]] || fail "a refused file got a socket"
 }
@@ -184,22 +186,96 @@ flipped_are_refused() {
     done
 }
 
-# The file that examples/first.log leaves, damaged: n is 1, job 7 holds node 0, node 1 is faulty, three calls were accepted.
-damaged_files() {
+# first_log: a daemon's file after examples/first.log. n is 1, job 7 holds node 0, node 1 is faulty, three calls were accepted.
+first_log() {
     new_machine "$memory"
     start "$bin/cube-host" "$record" "$socket" 1
     "${client[@]}" "$socket" < examples/first.log > "$folder/printed"
     end_daemon
+}
+
+# Node 0 is held, so that only the checksum tells other star bits of it; node 1 is unheld.
+damaged_files() {
+    local length="the file hasn't $file_size bytes"
+    first_log
     cp "$record" "$folder/right"
-    flipped_are_refused "what the file holds is not a record" 0 2 4 5 15 2065 3087
-    flipped_are_refused "the checksum is not that of the file" 16 3088 3096 3108 3115
-    head -c 3115 "$folder/right" > "$record"
-    refused_file "the file hasn't 3116 bytes"
+    flipped_are_refused "what the file holds is not a record" 0 1 4 5 15 2065 3087 3090 3091 5135
+    flipped_are_refused "the checksum is not that of the file" 16 3088 3089 5136 5144 5156 5163
+    head -c $((file_size - 1)) "$folder/right" > "$record"
+    refused_file "$length"
     echo >> "$record"
     echo >> "$record"
-    refused_file "the file hasn't 3116 bytes"
+    refused_file "$length"
     : > "$record"
-    refused_file "the file hasn't 3116 bytes"
+    refused_file "$length"
+}
+
+zeros() { head -c "$1" /dev/zero; }
+
+# FNV-1a, 64 bits, of standard input: its eight bytes, lowest first.
+checksum() {
+    local byte place sum=0xcbf29ce484222325
+    for byte in $(od -An -v -tu1); do sum=$(((sum ^ byte) * 0x100000001b3)); done
+    for place in 0 8 16 24 32 40 48 56; do bytes "$(printf %02x $((sum >> place & 255)))"; done
+}
+
+# write_file SIZE BYTES..: the file that examples/first.log leaves, by the table in README.md, with a record of this size that begins with these
+# four bytes; what it has behind the conditions is 0.
+write_file() {
+    {
+        bytes "${@:2}" 01 01 02 03 04 05 06 07 08 09 0a 00
+        bytes 07 00 && zeros 2046 # holders
+        bytes 01 02 && zeros 1022 # conditions
+        zeros $(($1 - 3088))
+        bytes 03 00 00 00 00 00 00 00 06 00 03 80 && zeros 8 # the greeting: three calls, and done 0
+    } > "$folder/summed"
+    cat "$folder/summed" <(checksum < "$folder/summed") > "$record"
+}
+
+# other_record SIZE KIND: the file holds a record of this size and kind, and is left, whether or not a fresh cube is asked for.
+other_record() {
+    local said="the file holds a record of $1 bytes, kind $2; this daemon keeps records of 5136 bytes, kind 0x0002; the file is left as it is"
+    refused_file "$said"
+    refused_file "$said" 1
+}
+
+# Files with records of other sizes and kinds: 3088 bytes, kind 0x0001, is the one without star bits. The first file is this daemon's own.
+other_records() {
+    first_log
+    cp "$record" "$folder/right"
+    write_file "$record_size" 10 14 02 00
+    cmp "$record" "$folder/right"
+    write_file 3088 10 0c 01 00
+    other_record 3088 0x0001
+    write_file "$record_size" 10 14 01 00
+    other_record 5136 0x0001
+    write_file 3088 10 0c 02 00
+    other_record 3088 0x0002
+    write_file 5138 12 14 03 00
+    other_record 5138 0x0003
+    write_file 65535 ff ff 34 12
+    other_record 65535 0x1234
+}
+
+# Files whose size is not that of the record that their first bytes say, with what stands behind it.
+no_records() {
+    local length="the file hasn't $file_size bytes"
+    new_machine "$memory"
+    write_file "$record_size" 10 0c 01 00
+    refused_file "what the file holds is not a record"
+    write_file 3088 10 14 02 00
+    refused_file "$length"
+    write_file 3088 10 0c 01 00
+    cp "$record" "$folder/old"
+    head -c 3115 "$folder/old" > "$record"
+    refused_file "$length"
+    head -c 3088 "$folder/old" > "$record"
+    refused_file "$length"
+    cp "$folder/old" "$record"
+    echo >> "$record"
+    refused_file "$length"
+    zeros 28 > "$record"
+    refused_file "$length"
 }
 
 # Arguments, and what other programs have.
@@ -280,9 +356,11 @@ killed_often kill "$disk" 60
 killed_often cut "$memory" 200
 growths
 damaged_files
+other_records
+no_records
 refused_starts
 full_disk
 refused_call
 odd_clients
 if command -v valgrind > /dev/null; then watched 15 400; else echo "host: no valgrind here"; fi
-echo "host: growths, damaged files, refused starts, a full disk and odd clients as expected"
+echo "host: growths, damaged files, records of other sizes and kinds, refused starts, a full disk and odd clients as expected"
