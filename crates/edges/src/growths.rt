@@ -1,18 +1,11 @@
 // The edges of growth, document 02, (e): to the job that grows its own good nodes are free; it gets the first such member and loses its nodes
 // outside that. Requests by other jobs show which nodes it left.
 use super::printed;
+use printed::all_good;
 use printed::grow;
 use printed::hold;
 use printed::release;
 use printed::request;
-
-// A cube all of whose nodes are good; `end` is 2^n.
-fn all_good(n: u32, end: u16) -> [u8; record::SIZE] {
-    let mut rec = printed::buffer();
-    cube::cube_setup(&mut rec, n);
-    printed::make_good_from(&mut rec, 0, end);
-    rec
-}
 
 // n 3, all good: growths that keep its nodes, and the causes 17 and 10 on its way: a growth is not refused 10, a request by the same job is.
 fn sizes(rec: &mut [u8; record::SIZE]) {

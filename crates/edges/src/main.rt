@@ -1,9 +1,11 @@
-// The edges of document 01, and the causes in pairs: where two rows of the table are met at once, the first wins; then those of relabels and growths.
-// Each line has the number returned and the six words of the reply buffer, which held 61166 in each before the call.
+// The edges of document 01, and the causes in pairs: where two rows of the table are met at once, the first wins; then those of relabels,
+// growths and star bits. Each line has the number returned and the six words of the reply buffer, which held 61166 in each before the call.
 mod growth_causes;
 mod growths;
 mod printed;
 mod relabels;
+mod star_bits;
+mod star_records;
 
 use printed::buffer;
 use printed::call;
@@ -16,13 +18,15 @@ fn set_ups() {
     set_up(b"set-up of n 11", &mut rec, 11);
     set_up(b"set-up of n 10", &mut rec, 10);
     set_up(b"set-up of n 0", &mut rec, 0);
-    let mut short = [0; 3087];
-    set_up(b"set-up of 3087 bytes", &mut short, 10);
+    let mut short = [0; 5135];
+    set_up(b"set-up of 5135 bytes", &mut short, 10);
     set_up(
-        b"causes 1 and 7, set-up of 3087 bytes and n 11",
+        b"causes 1 and 7, set-up of 5135 bytes and n 11",
         &mut short,
         11,
     );
+    let mut long = [0; 5137];
+    set_up(b"set-up of 5137 bytes", &mut long, 10);
 }
 
 // n 10: nodes 1023 and 1024, k 10 and 11, jobs 65535 and 0, replies of 12 and 11 bytes.
@@ -215,4 +219,6 @@ fn main() {
     growth_causes::pairs();
     growth_causes::smallest();
     growths::growths();
+    star_records::star_records();
+    star_bits::star_bits();
 }

@@ -10,7 +10,7 @@ fn word(low: u8, high: u8) -> u64 {
     low as u64 + 256 * (high as u64)
 }
 
-fn print_word(low: u8, high: u8) {
+pub(crate) fn print_word(low: u8, high: u8) {
     io::write_all(STDOUT_FILENO, b" ");
     io::print_decimal(STDOUT_FILENO, word(low, high));
 }
@@ -127,4 +127,12 @@ pub(crate) fn make_good_from(rec: &mut [u8], first: u16, end: u16) {
     for x in first..end {
         make_good(rec, x);
     }
+}
+
+// A cube all of whose nodes are good; `end` is 2^n.
+pub(crate) fn all_good(n: u32, end: u16) -> [u8; record::SIZE] {
+    let mut rec = buffer();
+    cube::cube_setup(&mut rec, n);
+    make_good_from(&mut rec, 0, end);
+    rec
 }
