@@ -72,12 +72,13 @@ static size_t read_all(int file, uint8_t *bytes, size_t size, const char *path)
 }
 
 /* Ends the program if the file's record is of another size or kind, as that of
- * another release is. Every record begins with its length and its kind, and the
- * file goes on behind it with as many bytes as here. */
+ * another release is. Every record begins with its length and its kind; the
+ * file is the record alone, or goes on behind it with as many bytes as here. */
 static void refuse_other_record(const char *path, const uint8_t *bytes, size_t size)
 {
-    bool whole = size >= 4 + AFTER_RECORD && size == field(bytes, 0) + AFTER_RECORD;
-    if (!whole || (field(bytes, 0) == CUBE_RECORD_SIZE && kind(bytes) == CUBE_RECORD_KIND))
+    size_t length = field(bytes, 0);
+    bool whole = length >= 4 && (size == length || size == length + AFTER_RECORD);
+    if (!whole || (length == CUBE_RECORD_SIZE && kind(bytes) == CUBE_RECORD_KIND))
         return;
     fail(REFUSED_BY_NUMBER, path,
          "refused 1: the file holds a record of %u bytes, kind 0x%04x; "

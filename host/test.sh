@@ -247,6 +247,9 @@ other_records() {
     cmp "$record" "$folder/right"
     write_file 3088 10 0c 01 00
     other_record 3088 0x0001
+    cp "$record" "$folder/old"
+    head -c 3088 "$folder/old" > "$record" # the record alone
+    other_record 3088 0x0001
     write_file "$record_size" 10 14 01 00
     other_record 5136 0x0001
     write_file 3088 10 0c 02 00
@@ -260,7 +263,8 @@ other_records() {
 # Files whose size is not that of the record that their first bytes say, with what stands behind it.
 no_records() {
     local length="the file hasn't $file_size bytes"
-    new_machine "$memory"
+    first_log
+    cp "$record" "$folder/right"
     write_file "$record_size" 10 0c 01 00
     refused_file "what the file holds is not a record"
     write_file 3088 10 14 02 00
@@ -269,7 +273,7 @@ no_records() {
     cp "$record" "$folder/old"
     head -c 3115 "$folder/old" > "$record"
     refused_file "$length"
-    head -c 3088 "$folder/old" > "$record"
+    head -c "$record_size" "$folder/right" > "$record"
     refused_file "$length"
     cp "$folder/old" "$record"
     echo >> "$record"
