@@ -282,10 +282,10 @@ fn put_words(part: &[u16], at: usize, bytes: &mut [u8])
     }
 }
 
-// The conditions after the holders.
+// The conditions after the holders. The others stay.
 fn put_conditions(s: State, bytes: &mut [u8])
     requires { ⌜ Begun s conditionsAt (now bytes) ⌝ }
-    ensures { λ _. ⌜ Begun s starsAt (now (bytes .exit)) ⌝ }
+    ensures { λ _. ⌜ Stored s (now (bytes .entry)) starsAt (now (bytes .exit)) ⌝ }
 {
     let mut x = 0;
     while x < 1024 {

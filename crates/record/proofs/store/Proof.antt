@@ -33,7 +33,7 @@ returns c =
     let laid = c .before .before in
     let conditions = laid .before .before .before .before .before .before .before in
     let z = sized (conditions .before .before .before .before .before .before .before .before .before .before .before .before .before .before) in
-    stored-all z (begun-laid _ starsAt _ (says-stars _ z) (conditions .put-conditions .ensures) (laid .put-words2 .ensures))
+    stored-all z (begun-laid _ starsAt _ (says-stars _ z) (conditions .put-conditions .ensures .begun) (laid .put-words2 .ensures))
 
 pub store-spec : {M : Type 1} → statement M
 store-spec =
