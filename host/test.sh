@@ -118,7 +118,7 @@ mortal() {
 
 # One daemon after another until the client is done; adds up those that were killed.
 daemons_until_done() {
-    local ended status
+    local ended status last=0
     while true; do
         mortal "$1"
         start "${command[@]}"
@@ -128,8 +128,9 @@ daemons_until_done() {
         ((status == 137)) || fail "a daemon ended with status $status"
         killed=$((killed + 1))
     done
-    kill "$daemon"
-    { wait "$daemon" || true; } 2> /dev/null
+    kill "$daemon" 2> /dev/null || true # it may have been killed behind its last answer
+    { wait "$daemon" || last=$?; } 2> /dev/null
+    ((last == 0 || last == 137 || last == 143)) || fail "the last daemon ended with status $last" # 143: before it could take the signal
     return "$status"
 }
 
