@@ -5,4 +5,5 @@ pub mod Round
 pub mod Stored
 pub mod Refusal
 pub mod Maximum
+pub mod Halves
 pub mod Parts

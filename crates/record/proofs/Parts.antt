@@ -6,7 +6,7 @@ use mathlib.Core.Bool.{Bool, true, false, not, cond, _&&_}
 use mathlib.Core.List.{List}
 use native.Mathlib.Omega.{arith}
 use borrow.Author.Tests.{le-leb, lt-leb}
-use lib.Bits.{bitOr, or-add-and, and-le-l, and-le-r}
+use lib.Bits.{bitOr}
 use lib.Dec.{eqb, leb}
 use lib.ListN.{length, getD}
 use Rattle.hypercube.specs.Words.{word}
@@ -21,6 +21,7 @@ use Rattle.record.specs.Highest.{highestOf, allZero}
 use Rattle.record.specs.Layout.{holdersAt, conditionsAt, starsAt, recordSize, decode, starOf}
 use Rattle.record.proofs.Round.{decode-holder, decode-condition, decode-star, each-word}
 use Rattle.record.proofs.Maximum.{part, part-within}
+use Rattle.record.proofs.Halves.{or-zero}
 
 -- N nodes, of 1024; the highest byte of the conditions below N; whether those from N up, and the holders from N up, are all 0
 module _ (r : List ℕ) (N : ℕ) (long : length r ≡ recordSize) (few : N ≤ 1024) where
@@ -68,7 +69,7 @@ module _ (r : List ℕ) (N : ℕ) (long : length r ≡ recordSize) (few : N ≤ 
               (omega arith, omega arith)),
         )
 
-  means-unheld : (a e : ℕ) → e ≤ 1024
+  pub means-unheld : (a e : ℕ) → e ≤ 1024
       → Means (allZero (part r (holdersAt + 2 * a) (holdersAt + 2 * e))) ((x : ℕ) → a ≤ x → x < e → getD (decode r .holders) x 0 ≡ 0)
   means-unheld = means-unset holdersAt (decode r .holders) (omega arith) (decode-holder r)
 
@@ -117,14 +118,11 @@ module _ (r : List ℕ) (N : ℕ) (long : length r ≡ recordSize) (few : N ≤ 
 pub stray-next : (any h v : ℕ) → eqb (bitOr any (cond (eqb h 0) v 0)) 0 ≡ eqb any 0 && starRight h v
 unfolding starRight
 stray-next any h v =
-    or-zero (cond (eqb h 0) v 0) ∙ ap (λ (b : Bool). eqb any 0 && b) (by-test (eqb h 0))
+    same-test (means-eq (bitOr any stars) 0) (means-and (means-eq any 0) (means-eq stars 0)) (or-zero any stars)
+    ∙ ap (λ (b : Bool). eqb any 0 && b) (by-test (eqb h 0))
   where
-    or-zero : (a : ℕ) → eqb (bitOr any a) 0 ≡ eqb any 0 && eqb a 0
-    or-zero a =
-        let sum = or-add-and any a in
-        let l = and-le-l any a in
-        let r = and-le-r any a in
-        same-test (means-eq (bitOr any a) 0) (means-and (means-eq any 0) (means-eq a 0)) (λ e. (omega arith, omega arith), λ e. omega arith)
+    stars : ℕ
+    stars = cond (eqb h 0) v 0
 
     by-test : (b : Bool) → eqb (cond b v 0) 0 ≡ cond b (eqb v 0) true
     by-test true = refl
@@ -141,19 +139,18 @@ module _ (r : List ℕ) (N : ℕ) (long : length r ≡ recordSize) (few : N ≤ 
   means-star-at x h =
       rw (decode-holder r x h, decode-star r x h) (means-star (word r (holdersAt + 2 * x)) (word r (starsAt + 2 * x)))
 
-  two-parts : (allBelow (starOf r) N && stars-beyond) ≡ starsRight (decode r .holders) (decode r .stars)
+  two-parts : (stars-beyond && allBelow (starOf r) N) ≡ starsRight (decode r .holders) (decode r .stars)
   two-parts =
-      same-test (means-and
-      (means-each (starOf r) (λ x. getD (decode r .holders) x 0 ≡ 0 → getD (decode r .stars) x 0 ≡ 0) N (λ x l. means-star-at x (omega arith)))
-      (means-unset r N long few starsAt (decode r .stars) (omega arith) (decode-star r) N 1024 (omega arith)))
+      same-test (means-and (means-unset r N long few starsAt (decode r .stars) (omega arith) (decode-star r) N 1024 (omega arith))
+      (means-each (starOf r) (λ x. getD (decode r .holders) x 0 ≡ 0 → getD (decode r .stars) x 0 ≡ 0) N (λ x l. means-star-at x (omega arith))))
       (means-stars (decode r .holders) (decode r .stars)) (
-        λ p x l z. ⊎-elim (λ b. p .0 x b z) (λ g. p .1 x g l) (lt-or x N),
-        λ q. (λ x l z. q x (omega arith) z, λ x g l. q x l (unheld x g l)),
+        λ p x l z. ⊎-elim (λ b. p .1 x b z) (λ g. p .0 x g l) (lt-or x N),
+        λ q. (λ x g l. q x l (unheld x g l), λ x l z. q x (omega arith) z),
       )
 
-  module _ {b : Bool} (e : b ≡ allBelow (starOf r) N) where
-    pub not-below-stars : b ≡ false → false ≡ starsRight (decode r .holders) (decode r .stars)
-    not-below-stars z = rw (← two-parts, ← e, z)
+  module _ {b : Bool} (e : b ≡ stars-beyond) where
+    pub not-beyond-stars : b ≡ false → false ≡ starsRight (decode r .holders) (decode r .stars)
+    not-beyond-stars z = rw (← two-parts, ← e, z)
 
-    pub by-stars : {t : Bool} → b ≡ true → t ≡ stars-beyond → t ≡ starsRight (decode r .holders) (decode r .stars)
+    pub by-stars : {t : Bool} → b ≡ true → t ≡ allBelow (starOf r) N → t ≡ starsRight (decode r .holders) (decode r .stars)
     by-stars {t} z g = rw (← two-parts, ← e, ← g, z)

@@ -1,26 +1,30 @@
--- `record::all_zero` meets its contract. The loop's invariant: what was found, with the highest of what is left, is 0 where the highest of all is.
--- Assumes nothing.
-use Prim.Native.Nat.{_-_, max}
-use mathlib.Core.Logic.{_↔_}
-use mathlib.Core.Path.{_≡_}
+-- `record::all_zero` meets its contract. The loop's invariant: what was found is 0 where all that was read of both halves is. Assumes nothing.
+use Prim.Native.Nat.{_-_, _≤_}
 use native.Mathlib.Omega.{arith}
-use lib.ListN.{length, drop}
-use Rattle.record.specs.Highest.{highestOf}
-use Rattle.record.proofs.Maximum.{zero-next, zero-end}
+use Rattle.record.proofs.Halves.{Zero, zero-none, zero-next, zero-all}
 use Rattle.record.proofs.all_zero.Statement.{statement}
 use Rattle.record.proofs.all_zero.Tie as tie
 
 abbrev Inv-loop : tie.InvT-loop
-Inv-loop part any₀ i₀ any i = (max any (highestOf (drop i part)) ≡ 0) ↔ (highestOf part ≡ 0)
+Inv-loop part upper turns any₀ i₀ any i = Zero part i any × (i ≤ turns)
 
 abbrev μ-loop : tie.MeasureT-loop
-μ-loop part any₀ i₀ any i = length part - i
+μ-loop part upper turns any₀ i₀ any i = turns - i
+
+sub-turns : tie.Need-sub-turns Inv-loop μ-loop
+sub-turns c = omega arith
 
 loop-holds : tie.Need-loop-holds Inv-loop μ-loop
-loop-holds c = (λ z. omega arith, λ z. omega arith)
+loop-holds c = (zero-none _, omega arith)
 
 shared-slice-read-any : tie.Need-shared-slice-read-any Inv-loop μ-loop
 shared-slice-read-any c = omega arith
+
+add-any : tie.Need-add-any Inv-loop μ-loop
+add-any c = omega arith
+
+shared-slice-read-any-2 : tie.Need-shared-slice-read-any-2 Inv-loop μ-loop
+shared-slice-read-any-2 c = omega arith
 
 add-i : tie.Need-add-i Inv-loop μ-loop
 add-i c = omega arith
@@ -29,12 +33,23 @@ loop-less : tie.Need-loop-less Inv-loop μ-loop
 loop-less c = omega arith
 
 loop-again : tie.Need-loop-again Inv-loop μ-loop
-loop-again c = zero-next _ _ _ (c .before .before .loop .inv) (c .before .loop-test .taken)
+loop-again c = (zero-next _ _ _ (c .before .before .before .loop .inv .0), omega arith)
 
 returns : tie.Need-returns Inv-loop μ-loop
-returns c = zero-end _ _ _ (c .before .loop .inv) (c .loop-test .left)
+returns c = zero-all _ _ _ (c .before .loop .inv .0) (omega arith)
 
 pub all-zero-spec : {M : Type 1} → statement M
 all-zero-spec =
     tie.close
-    (tie.spec Inv-loop μ-loop loop-holds shared-slice-read-any add-i loop-less loop-again returns)
+    (tie.spec
+    Inv-loop
+    μ-loop
+    sub-turns
+    loop-holds
+    shared-slice-read-any
+    add-any
+    shared-slice-read-any-2
+    add-i
+    loop-less
+    loop-again
+    returns)

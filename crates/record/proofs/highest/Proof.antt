@@ -1,25 +1,37 @@
--- `record::highest` meets its contract. The loop's invariant: what was found, with the highest of what is left, is the highest of all. Assumes nothing.
-use Prim.Native.Nat.{_-_, max}
-use mathlib.Core.Logic.{⊎-elim}
-use mathlib.Core.Path.{_≡_}
+-- `record::highest` meets its contract. The loop's invariant: what was found is the highest of what was read of both halves. Assumes nothing.
+use Prim.Native.Nat.{_-_, _≤_}
 use native.Mathlib.Omega.{arith}
-use lib.ListN.{length, drop}
-use Rattle.record.specs.Highest.{highestOf}
-use Rattle.record.proofs.Maximum.{highest-next, highest-end}
+use borrow.Author.Needs.{needs}
+use Rattle.record.proofs.Halves.{Highest, highest-none, highest-next, highest-all}
 use Rattle.record.proofs.highest.Statement.{statement}
 use Rattle.record.proofs.highest.Tie as tie
 
 abbrev Inv-loop : tie.InvT-loop
-Inv-loop part m₀ i₀ m i = max m (highestOf (drop i part)) ≡ highestOf part
+Inv-loop part upper turns m₀ i₀ m i = Highest part i m × (i ≤ turns)
 
 abbrev μ-loop : tie.MeasureT-loop
-μ-loop part m₀ i₀ m i = length part - i
+μ-loop part upper turns m₀ i₀ m i = turns - i
+
+sub-turns : tie.Need-sub-turns Inv-loop μ-loop
+sub-turns c = omega arith
 
 loop-holds : tie.Need-loop-holds Inv-loop μ-loop
-loop-holds c = omega arith
+loop-holds c = (highest-none _, omega arith)
 
-shared-slice-read-x : tie.Need-shared-slice-read-x Inv-loop μ-loop
-shared-slice-read-x c = omega arith
+shared-slice-read-greater : tie.Need-shared-slice-read-greater Inv-loop μ-loop
+shared-slice-read-greater c = omega arith
+
+add-greater : tie.Need-add-greater Inv-loop μ-loop
+add-greater c = omega arith
+
+shared-slice-read-greater-2 : tie.Need-shared-slice-read-greater-2 Inv-loop μ-loop
+shared-slice-read-greater-2 c = omega arith
+
+greater-requires : tie.Need-greater-requires Inv-loop μ-loop
+greater-requires c κs = search needs
+
+greater-requires-2 : tie.Need-greater-requires-2 Inv-loop μ-loop
+greater-requires-2 c κs = search needs
 
 add-i : tie.Need-add-i Inv-loop μ-loop
 add-i c = omega arith
@@ -29,13 +41,26 @@ loop-less c = omega arith
 
 loop-again : tie.Need-loop-again Inv-loop μ-loop
 loop-again c =
-    highest-next _ _ _ (c .before .before .before .loop .inv) (c .before .before .loop-test .taken) _
-    (⊎-elim (λ w. omega arith) (λ w. omega arith) (c .if1 .came))
+    let at = c .before .before .before .before .before in
+    (highest-next _ _ _ _ (at .loop .inv .0) (omega (arith, c .greater2 .ensures, c .before .greater .ensures)), omega arith)
 
 returns : tie.Need-returns Inv-loop μ-loop
-returns c = highest-end _ _ _ (c .before .loop .inv) (c .loop-test .left)
+returns c = highest-all _ _ _ (c .before .loop .inv .0) (omega arith)
 
 pub highest-spec : {M : Type 1} → statement M
 highest-spec =
     tie.close
-    (tie.spec Inv-loop μ-loop loop-holds shared-slice-read-x add-i loop-less loop-again returns)
+    (tie.spec
+    Inv-loop
+    μ-loop
+    sub-turns
+    loop-holds
+    shared-slice-read-greater
+    add-greater
+    shared-slice-read-greater-2
+    greater-requires
+    greater-requires-2
+    add-i
+    loop-less
+    loop-again
+    returns)
