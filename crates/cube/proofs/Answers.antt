@@ -28,7 +28,7 @@ use Rattle.steps.proofs.Keeps.{Kept, kept-all, kept, stored-kept}
 use Rattle.cube.specs.Called.{stepOf, stepOn, callNumber, callRecord, callReply}
 use Rattle.hypercube.specs.Replies.{numberOf, replies}
 use Rattle.cube.specs.Run.{Exchange, fed}
-use Rattle.state.proofs.View.{view}
+use Rattle.state.specs.View.{view}
 use Rattle.state.proofs.Effected.{Does}
 use Rattle.cube.proofs.Framed.{does}
 use Rattle.cube.proofs.Heard.{Plain, plain-of, replies-all}
@@ -48,19 +48,19 @@ pub record Answers (n : ℕ) (v : Reply) (h : History) (e : Exchange) (r : List 
   pub replied : callReply r (e .frame) (e .buffer) ≡ replies v (e .buffer)
   pub next : Stands n h (callRecord r (e .frame) (e .buffer))
 
-module _ (s : State) (z : Sized s) (w : Valid s) (e : Exchange) where
-  -- the record passes refusal 1's test
-  passes : validRecord (encode s) ≡ true
-  passes = valid-encode s z ∙ means-valid s (z .directions) .shows w
+-- the record of a valid state passes refusal 1's test
+passes : (s : State) → Sized s → Valid s → validRecord (encode s) ≡ true
+passes s z w = valid-encode s z ∙ means-valid s (z .directions) .shows w
 
+module _ (s : State) (z : Sized s) (w : Valid s) (e : Exchange) where
   -- a reply buffer under 12 bytes
   short : ltb (length (e .buffer)) 12 ≡ true → Answers (s .n) (Refused 2 0) (view s) e (encode s)
   unfolding callNumber callReply callRecord
   short l = record {
     plain = (omega arith, λ q. refl);
-    returned = rw (passes, l);
-    replied = rw (passes, l);
-    next = record { state = s; bytes = rw (passes, l); sized = z; dimension = refl; viewed = refl };
+    returned = rw (passes s z w, l);
+    replied = rw (passes s z w, l);
+    next = record { state = s; bytes = rw (passes s z w, l); sized = z; dimension = refl; viewed = refl };
   }
 
   -- what any frame keeps
@@ -77,11 +77,12 @@ module _ (s : State) (z : Sized s) (w : Valid s) (e : Exchange) where
   unfolding callNumber callReply callRecord stepOn
   long l = record {
     plain = subst Plain (D .told) (plain-of (t .reply) (D .ends));
-    returned = rw (passes, l, decode-encode s z) (ap numberOf (D .told));
-    replied = rw (passes, l, decode-encode s z) (replies-all (t .reply) (e .buffer) (D .ends) ∙ ap (λ (v : Reply). replies v (e .buffer)) (D .told));
+    returned = rw (passes s z w, l, decode-encode s z) (ap numberOf (D .told));
+    replied = rw (passes s z w, l, decode-encode s z)
+        (replies-all (t .reply) (e .buffer) (D .ends) ∙ ap (λ (v : Reply). replies v (e .buffer)) (D .told));
     next = record {
       state = t .state;
-      bytes = rw (passes, l, decode-encode s z) (stored-kept s z t K);
+      bytes = rw (passes s z w, l, decode-encode s z) (stored-kept s z t K);
       sized = K .sized;
       dimension = K .same-n;
       viewed = D .stands;
@@ -112,8 +113,12 @@ valid-of s small B = record {
   unstarred = λ x l. B .unstarred x;
 }
 
-pub valid-stands : {n : ℕ} {h : History} {r : List ℕ} → n ≤ 10 → Bounded n h → (S : Stands n h r) → Valid (S .state)
+valid-stands : {n : ℕ} {h : History} {r : List ℕ} → n ≤ 10 → Bounded n h → (S : Stands n h r) → Valid (S .state)
 valid-stands small B S = valid-of (S .state) (rw (S .dimension) small) (rw (S .dimension, S .viewed) B)
+
+-- so the bytes pass refusal 1's test
+pub stands-valid : {n : ℕ} {h : History} {r : List ℕ} → n ≤ 10 → Bounded n h → Stands n h r → validRecord r ≡ true
+stands-valid small B S = rw (S .bytes) (passes (S .state) (S .sized) (valid-stands small B S))
 
 pub answers : (n : ℕ) (h : History) (r : List ℕ) → n ≤ 10 → Bounded n h → Stands n h r → (e : Exchange)
     → Answers n (verdict n h (fed e)) (step n h (fed e)) e r

@@ -15,7 +15,7 @@ use Rattle.state.specs.declared.State.{State}
 use Rattle.state.specs.declared.Call as alloc
 use Rattle.state.specs.Acts.{callOf}
 use Rattle.state.proofs.Valid.{Sized, Valid}
-use Rattle.state.proofs.View.{view}
+use Rattle.state.specs.View.{view}
 use Rattle.state.proofs.Effected.{Does, refuses}
 use Rattle.state.proofs.Agrees.{Reads, reads}
 use Rattle.frames.specs.Parse.{sized, parsed}

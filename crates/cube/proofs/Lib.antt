@@ -5,5 +5,7 @@ pub mod Room
 pub mod Answers
 pub mod Judge
 pub mod Records
+pub mod Loads
+pub mod Lists
 pub mod Theorem
 pub mod Ways

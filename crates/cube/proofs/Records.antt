@@ -8,10 +8,9 @@ use lib.ListN.{length, getD}
 use Rattle.hypercube.specs.Words.{word}
 use Rattle.history.specs.Account.{History}
 use Rattle.history.specs.Claims.{Bounded}
-use Rattle.state.proofs.Valid.{means-valid}
-use Rattle.record.proofs.Round.{length-encode, encode-n, valid-encode, encode-map, encode-condition, word-says, says-holders, says-stars}
+use Rattle.record.proofs.Round.{length-encode, encode-n, encode-map, encode-condition, word-says, says-holders, says-stars}
 use Rattle.cube.specs.Demand3.{Recorded}
-use Rattle.cube.proofs.Answers.{Stands, valid-stands}
+use Rattle.cube.proofs.Answers.{Stands, stands-valid}
 use Rattle.record.specs.Layout.{mapAt, holdersAt, conditionsAt, starsAt, recordSize}
 
 -- the bytes r are the history's at every place
@@ -36,14 +35,15 @@ reads S =
       stars = word-says (says-stars s z);
     })
 
-pub recorded : {n : ℕ} {h₀ h : History} {r₀ r : List ℕ} → n ≤ 10 → Stands n h₀ r₀ → Bounded n h₀ → Stands n h r → Bounded n h → Recorded n h r₀ r
+pub recorded : {n : ℕ} {h₀ h : History} {r₀ r : List ℕ}
+    → n ≤ 10 → Stands n h₀ r₀ → Bounded n h₀ → Stands n h r → Bounded n h → Recorded n h r₀ r
 recorded {n} small S₀ B₀ S B =
     let R₀ = reads S₀ in
     let R = reads S in
     let fits : 2 ^ n ≤ 1024 = pow-mono small in
     record {
       whole = R .whole;
-      valid = rw (S .bytes) (valid-encode (S .state) (S .sized) ∙ means-valid (S .state) (S .sized .directions) .shows (valid-stands small B S));
+      valid = stands-valid small B S;
       dimension = R .dimension;
       directions = λ i l. R .directions i (omega arith);
       holders = λ x l. R .holders x (omega arith);

@@ -1,4 +1,4 @@
--- Each way out of set-up and of the frame call. Assumes nothing.
+-- Each way out of set-up, of the loading call and of the frame call. Assumes nothing.
 use Prim.Native.Nat.{ℕ, zero, suc, _<_, _≤_}
 use mathlib.Core.Logic.{_≢_}
 use mathlib.Core.Path.{_≡_, refl, sym, ap, _∙_}
@@ -13,12 +13,14 @@ use Rattle.hypercube.specs.declared.Reply.{Reply}
 use Rattle.hypercube.specs.declared.Reply.the-variants.{Refused}
 use Rattle.state.specs.States.{freshState}
 use Rattle.record.specs.Layout.{recordSize, encode, validRecord}
+use Rattle.record.specs.Says.{formedRecord}
 use Rattle.record.proofs.Round.{record-says, encode-decode}
 use Rattle.frames.specs.declared.Parsed.{Parsed}
 use Rattle.frames.specs.declared.Parsed.the-variants.{Bad}
 use Rattle.frames.specs.Parse.{parsed}
 use Rattle.steps.proofs.Ways.{refuses}
-use Rattle.cube.specs.Called.{setupNumber, setupRecord, stepOn, callNumber, callRecord, callReply, delivered, SetUp, Called}
+use Rattle.cube.specs.Called.{setupNumber, setupRecord, loadNumber, stepOn, callNumber, callRecord, callReply}
+use Rattle.cube.specs.Called.{delivered, SetUp, Loaded, Called}
 use Rattle.cube.specs.Carried.{CarriedFrame}
 
 -- ---- set-up
@@ -40,17 +42,34 @@ module _ (r : List ℕ) (n : ℕ) where
       «record» = rw (eq-eqb _ _ long, le-leb n 10 h) (q ∙ ap encode e);
     }
 
+-- ---- the loading call
+
+module _ (r : List ℕ) where
+  pub load-1 : validRecord r ≡ false → Loaded delivered r 1
+  unfolding loadNumber
+  load-1 h = record { returned = rw h }
+
+  module _ (v : validRecord r ≡ true) where
+    pub load-18 : formedRecord r .test ≡ false → Loaded delivered r 18
+    unfolding loadNumber
+    load-18 h = record { returned = rw (v, h) }
+
+    pub load-0 : formedRecord r .test ≡ true → Loaded delivered r 0
+    unfolding loadNumber
+    load-0 h = record { returned = rw (v, h) }
+
 -- ---- the frame call
 
 -- a frame that is not read
-pub frame-refused : (r : List ℕ) → validRecord r ≡ true → ((i : ℕ) → getD r i 0 < 256) → (m : ℕ) {told : Reply} → told ≡ Refused m 0
-    → CarriedFrame r (Bad m) told r
+pub frame-refused : (r : List ℕ) → validRecord r ≡ true → ((i : ℕ) → getD r i 0 < 256)
+    → (m : ℕ) {told : Reply} → told ≡ Refused m 0 → CarriedFrame r (Bad m) told r
 frame-refused r v bytes zero a =
     record { replied = a; left = sym (encode-decode r (record-says r v .long) bytes (record-says r v .head)) }
 frame-refused r v bytes (suc m) a = refuses r (suc m) (λ z. absurd (omega arith)) refl a
 
 -- a frame that is known to be another
-pub by-frame : (r : List ℕ) {p q : Parsed} → p ≡ q → {told : Reply} {r′ : List ℕ} → CarriedFrame r q told r′ → CarriedFrame r p told r′
+pub by-frame : (r : List ℕ) {p q : Parsed} → p ≡ q → {told : Reply} {r′ : List ℕ}
+    → CarriedFrame r q told r′ → CarriedFrame r p told r′
 by-frame r e h = rw e h
 
 module _ (r f p : List ℕ) where

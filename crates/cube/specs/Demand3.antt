@@ -3,7 +3,7 @@ use Prim.Native.Nat.{ℕ, _+_, _*_, _^_, _<_, _≤_}
 use mathlib.Core.Path.{_≡_}
 use mathlib.Core.Logic.{_↔_, _≢_}
 use mathlib.Core.Bool.{true}
-use mathlib.Core.List.{List, []}
+use mathlib.Core.List.{List}
 use lib.ListN.{length, getD}
 use Rattle.hypercube.specs.Lists.{In, FirstWith}
 use Rattle.hypercube.specs.Labels.{node}
@@ -11,14 +11,16 @@ use Rattle.hypercube.specs.declared.Subcube.{Subcube}
 use Rattle.hypercube.specs.Words.{word}
 use Rattle.hypercube.specs.Replies.{granted, numberOf, replies}
 use Rattle.history.specs.Calls.{kind, job, ask, asking}
-use Rattle.history.specs.Account.{History, fresh, AllFree}
+use Rattle.history.specs.Account.{History, AllFree}
 use Rattle.history.specs.Causes.{First, NoneMet, NoMemberFree, asked, earlier, causes}
 use Rattle.hypercube.specs.declared.Reply.the-variants.{Refused}
 use Rattle.history.specs.Verdicts.{tried, verdict}
 use Rattle.history.specs.Held.{Held, nodes}
 use Rattle.history.specs.Claims.{HeldRight}
 use Rattle.record.specs.Layout.{mapAt, holdersAt, conditionsAt, starsAt, recordSize, validRecord}
+use Rattle.record.specs.Says.{says, formedRecord}
 use Rattle.cube.specs.Called.{Program}
+use Rattle.cube.specs.Start.{Start, MayBegin}
 use Rattle.cube.specs.Run.{Exchange, Exchanges, _next_, fed, feed, recordAfter, number, reply, heldAt, historyFrom}
 
 -- a request or a growth is replied 'granted' with its job and the lowest node, star bits and place of the first free member of its family
@@ -26,7 +28,8 @@ pub record Gets (n : ℕ) (h : History) (e : Exchange) (p′ : List ℕ) : Type 
   pub member : Subcube
   pub place : ℕ
   pub first : FirstWith (AllFree h (ask (fed e))) (asked n (ask (fed e))) member place
-  pub replied : p′ ≡ replies (granted (job (fed e)) (node (h .directions) (member .low .0)) (node (h .directions) (member .stars)) place) (e .buffer)
+  pub replied : p′
+      ≡ replies (granted (job (fed e)) (node (h .directions) (member .low .0)) (node (h .directions) (member .stars)) place) (e .buffer)
 
 -- the call e is answered m and p′, by the history h before it; r and r′ are the record before and after
 pub record Judged (n : ℕ) (h : History) (e : Exchange) (m : ℕ) (p′ r r′ : List ℕ) : Type 0 where
@@ -45,7 +48,7 @@ pub record Judged (n : ℕ) (h : History) (e : Exchange) (m : ℕ) (p′ r r′ 
   pub gets-first : In (kind (fed e)) asking → NoneMet (earlier n) h (fed e) → ¬ NoMemberFree n h (ask (fed e)) → Gets n h e p′
 
 -- the record's bytes r are the history's: "its holders and conditions are compared below 2^n and its map up to n, and entries of these beyond that
--- stay as set-up left them", in r₀; so are its star bits
+-- stay as set-up left them", or as they were where the list began, in r₀; so are its star bits
 pub record Recorded (n : ℕ) (h : History) (r₀ r : List ℕ) : Type 0 where
   pub whole : length r ≡ recordSize
   pub valid : validRecord r ≡ true
@@ -59,20 +62,38 @@ pub record Recorded (n : ℕ) (h : History) (r₀ r : List ℕ) : Type 0 where
   pub conditions-beyond : (x : ℕ) → 2 ^ n ≤ x → x < 1024 → getD r (conditionsAt + x) 0 ≡ getD r₀ (conditionsAt + x) 0
   pub stars-beyond : (x : ℕ) → 2 ^ n ≤ x → x < 1024 → word r (starsAt + 2 * x) ≡ word r₀ (starsAt + 2 * x)
 
--- of the program P, for a list that begins at the record r of a cube of dimension n, where the history is s and the subcubes gs are held:
--- every list of calls, and every call after it
-pub record ListRight (P : Program) (n : ℕ) (r : List ℕ) (s : History) (gs : List Held) : Type 0 where
-  pub calls : (es : Exchanges) (e : Exchange)
-      → Judged n (historyFrom n s es) e (number P r es e) (reply P r es e) (recordAfter P r es) (recordAfter P r (es next e))
-  pub recorded : (es : Exchanges) → Recorded n (historyFrom n s es) r (recordAfter P r es)
-  pub held : (es : Exchanges) → HeldRight n s (feed es) (heldAt P r gs es)
-  -- document 02, (f): "every node of a job carries the same value, the one that its last grant replied", and one that is unheld 0
-  pub starred : (es : Exchanges) (g : Held) → In g (heldAt P r gs es) → (x : ℕ) → In x (nodes g)
-      → word (recordAfter P r es) (starsAt + 2 * x) ≡ g .stars
-  pub unstarred : (es : Exchanges) (x : ℕ) → x < 1024 → word (recordAfter P r es) (holdersAt + 2 * x) ≡ 0
-      → word (recordAfter P r es) (starsAt + 2 * x) ≡ 0
+-- of the program P, for a list that begins at a: every list of calls, and every call after it
+module _ (P : Program) (a : Start) where
+  abbrev historyThen : Exchanges → History
+  historyThen = historyFrom (a .dimension) (a .history)
 
--- for a cube of dimension n set up on the buffer b: the list begins at the record as set-up left it
-pub record Demand3 (P : Program) (n : ℕ) (b : List ℕ) : Type 0 where
-  pub set-up : P .setup-number b n ≡ 0
-  pub list : ListRight P n (P .setup-record b n) fresh []
+  abbrev recordThen : Exchanges → List ℕ
+  recordThen = recordAfter P (a .bytes)
+
+  abbrev heldThen : Exchanges → List Held
+  heldThen = heldAt P (a .bytes) (a .held)
+
+  pub record ListRight : Type 0 where
+    pub calls : (es : Exchanges) (e : Exchange)
+        → Judged (a .dimension) (historyThen es) e (number P (a .bytes) es e) (reply P (a .bytes) es e) (recordThen es) (recordThen (es next e))
+    pub recorded : (es : Exchanges) → Recorded (a .dimension) (historyThen es) (a .bytes) (recordThen es)
+    pub held : (es : Exchanges) → HeldRight (a .dimension) (a .history) (feed es) (heldThen es)
+    -- document 02, (f): "every node of a job carries the same value, the one that its last grant replied", and one that is unheld 0
+    pub starred : (es : Exchanges) (g : Held) → In g (heldThen es) → (x : ℕ) → In x (nodes g)
+        → word (recordThen es) (starsAt + 2 * x) ≡ g .stars
+    pub unstarred : (es : Exchanges) (x : ℕ) → x < 1024 → word (recordThen es) (holdersAt + 2 * x) ≡ 0 → word (recordThen es) (starsAt + 2 * x) ≡ 0
+    -- document 02, (g): "The host stores records and hands them in again": the record that the list leaves loads, and says the history
+    pub loads : (es : Exchanges) → P .load-number (recordThen es) ≡ 0
+    pub resumes : (es : Exchanges) → says (recordThen es) ≡ historyThen es
+
+-- the loading call answers m on the bytes r: 1 by refusal 1's test; then 18 exactly where some job's nodes and star bits don't form a subcube; else 0
+pub record Tests (r : List ℕ) (m : ℕ) : Type 0 where
+  pub refused-1 : (m ≡ 1) ↔ (¬ (validRecord r ≡ true))
+  pub refused-18 : (m ≡ 18) ↔ ((validRecord r ≡ true) × (¬ (formedRecord r .Met)))
+  pub passed : (m ≡ 0) ↔ ((validRecord r ≡ true) × formedRecord r .Met)
+
+-- for every record that set-up left or that the loading call lets through, and every list of calls from it
+pub record Demand3 (P : Program) : Type 0 where
+  pub set-up : (n : ℕ) → n ≤ 10 → (b : List ℕ) → length b ≡ recordSize → P .setup-number b n ≡ 0
+  pub loading : (r : List ℕ) → Tests r (P .load-number r)
+  pub lists : (a : Start) → MayBegin P a → ListRight P a

@@ -1,5 +1,5 @@
--- A list of calls on one record. Document 01, the paragraph of demand 3: "the list starts with the record as [set-up] left it. A call in it is any
--- bytes as a frame, with any reply buffer; neither is part of the record."
+-- A list of calls on one record. Document 01, the paragraph of demand 3: "A call in it is any bytes as a frame, with any reply buffer; neither is
+-- part of the record."
 use Prim.Native.Nat.{ℕ}
 use mathlib.Core.List.{List}
 use lib.ListN.{length}

@@ -7,6 +7,10 @@ pub mod Filled
 pub mod Pigeonhole
 pub mod Halves
 pub mod Vertices
+pub mod StarBits
+pub mod Formed
+pub mod Next
+pub mod ByNodes
 pub mod Labels
 pub mod Relabels
 pub mod Moved

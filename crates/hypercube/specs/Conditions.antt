@@ -7,7 +7,7 @@ use mathlib.Core.List.{List, [], _∷_}
 use native.Mathlib.Omega.{arith}
 use native.Mathlib.Decide.{ℕ-discrete}
 use lib.Dec.{eqb, ltb, leb}
-use Rattle.hypercube.specs.Lists.{In, Some, anyBelow}
+use Rattle.hypercube.specs.Lists.{In, Some, allBelow, anyBelow}
 use Rattle.hypercube.specs.Tests.{Means, means-true, means-iff, means-eq, means-lt, means-le, means-not, means-and, means-or}
 
 pub record Condition : Type 1 where
@@ -47,7 +47,7 @@ infixr 30 _or_
 abbrev pub _or_ : Condition → Condition → Condition
 _or_ a b = record { Met = a .Met ⊎ b .Met; test = a .test || b .test; means = means-or (a .means) (b .means) }
 
--- ---- of some number below N, and of every entry of a list
+-- ---- of some number below N, of each, and of every entry of a list
 
 pub means-some : (N : ℕ) (P : ℕ → Condition) → Means (anyBelow (λ x. P x .test) N) (Some N (λ x. P x .Met))
 unfolding anyBelow
@@ -63,6 +63,21 @@ means-some (suc N) P = means-iff (means-or (means-some N P) (P N .means)) (
 
 abbrev pub some-below : ℕ → (ℕ → Condition) → Condition
 some-below N P = record { Met = Some N (λ x. P x .Met); test = anyBelow (λ x. P x .test) N; means = means-some N P }
+
+pub means-each-below : (N : ℕ) (P : ℕ → Condition) → Means (allBelow (λ x. P x .test) N) ((x : ℕ) → x < N → P x .Met)
+unfolding allBelow
+means-each-below zero P = record { holds = λ e x l. absurd (omega arith); shows = λ h. refl }
+means-each-below (suc N) P = means-iff (means-and (means-each-below N P) (P N .means)) (
+  λ h x l. go h x l (ℕ-discrete x N),
+  λ h. (λ x l. h x (omega arith), h N (omega arith)),
+)
+  where
+    go : ((x : ℕ) → x < N → P x .Met) × P N .Met → (x : ℕ) → x < suc N → Dec (x ≡ N) → P x .Met
+    go h x l (yes e) = subst (λ (y : ℕ). P y .Met) (sym e) (h .1)
+    go h x l (no d) = h .0 x (omega arith)
+
+abbrev pub each-below : ℕ → (ℕ → Condition) → Condition
+each-below N P = record { Met = (x : ℕ) → x < N → P x .Met; test = allBelow (λ x. P x .test) N; means = means-each-below N P }
 
 unfoldable pub allOf : {A : Type 0} → (A → Bool) → List A → Bool
 allOf test [] = true

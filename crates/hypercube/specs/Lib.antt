@@ -1,5 +1,5 @@
--- The published definitions, in document 01's order: labels, subcubes, the families, the first free member, replies. Before them what a table of
--- causes and a call's checks are made of; after them what a loop has filled.
+-- The published definitions, in document 01's order: labels, subcubes, the families, the first free member, replies; and document 02's, (g).
+-- Before them what a table of causes and a call's checks are made of; after them what a loop has filled.
 pub mod Lists
 pub mod Tests
 pub mod Conditions
@@ -11,4 +11,6 @@ pub mod Gray
 pub mod Families
 pub mod Words
 pub mod Replies
+pub mod Formed
+pub mod ByNodes
 pub mod Filled

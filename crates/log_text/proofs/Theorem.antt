@@ -114,7 +114,7 @@ module _ (n : ℕ) (small : n ≤ 10) (b : List ℕ) (whole : length b ≡ recor
     right = S .length-field ∙ sym (S .size)
 
     accepted : firstNumber b f ≡ 0
-    accepted = set-up b f four right (S .kind) (S .size) ∙ rw (S .dimension) (demand3 n small b whole .set-up)
+    accepted = set-up b f four right (S .kind) (S .size) ∙ rw (S .dimension) (demand3 .set-up n small b whole)
 
     first-step : onFrame 0 b f (record { at = 0 + length f }) ≡ Line (Setup n) (record { at = 0 + length f })
     unfolding onFrame

@@ -18,7 +18,7 @@ use Rattle.state.specs.declared.Step.{Step}
 use Rattle.state.specs.Effects.{effected}
 use Rattle.state.specs.Acts.{callOf, checksOf, effectOf, guarded, acted}
 use Rattle.state.proofs.Valid.{Sized, Valid}
-use Rattle.state.proofs.View.{view}
+use Rattle.state.specs.View.{view}
 use Rattle.state.proofs.Effected.{Does, refuses, does-sets, does-relabels, does-releases, does-grants}
 
 -- checks with numbers from 3 on, and not 14

@@ -32,7 +32,8 @@ use Rattle.state.specs.Checks.{nodeCount}
 use Rattle.state.specs.Effects.{step, Sets, Relabels, Grants, Releases, effected, grantStep}
 use Rattle.state.specs.Acts.{refuse}
 use Rattle.state.proofs.Valid.{Sized, lost-sized, Valid}
-use Rattle.state.proofs.View.{view, entry-set, view-lost, view-taken}
+use Rattle.state.specs.View.{view}
+use Rattle.state.proofs.View.{entry-set, view-lost, view-taken}
 
 -- a step on the state s is what the history says of the call c whose first cause is o
 pub record Does (s : State) (c : Call) (st : Step) (o : Option ℕ) : Type 0 where

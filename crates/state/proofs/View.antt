@@ -1,4 +1,4 @@
--- A state read as a history; what a call changes in a state, it changes in what is read. Assumes nothing.
+-- What a call changes in a state, it changes in the history that the state says. Assumes nothing.
 use mathlib.Core.Path.{_≡_, refl, sym, ap, ap₂, _∙_, subst, fun-ext}
 use mathlib.Core.Logic.{_↔_, ⊎-elim}
 use mathlib.Core.Bool.{Bool, cond}
@@ -17,14 +17,8 @@ use Rattle.history.specs.Account.{History, put, putAll, wipe, withHeld, lose, t
 use Rattle.history.proofs.Counting.{means-among}
 use Rattle.state.specs.declared.State.{State}
 use Rattle.state.specs.States.{given, cleared, lost, taken}
+use Rattle.state.specs.View.{entry, view}
 use Rattle.state.proofs.Valid.{Sized}
-
--- the entry at a place, 0 beyond the list
-abbrev pub entry : List ℕ → ℕ → ℕ
-entry l x = getD l x 0
-
-abbrev pub view : State → History
-view s = record { condition = entry (s .conditions); holder = entry (s .holders); stars = entry (s .stars); directions = s .map }
 
 -- ---- the changes of a list
 

@@ -1,5 +1,6 @@
 -- The few calls by which the worthless programs are refuted, and what the history says of them. Assumes nothing.
 use mathlib.Core.Path.{_≡_, refl}
+use mathlib.Core.Option.{some}
 use mathlib.Core.List.{List, [], _∷_}
 use mathlib.Core.Logic.{inl}
 use Prim.Native.Nat.{ℕ, _+_, _*_}
@@ -95,7 +96,7 @@ parsed-grow = refl
 
 -- job j's subcube of node x alone, granted after the calls l
 abbrev pub alone : ℕ → ℕ → Log → Held
-alone j x l = record { holder = j; low = x; stars = 0; before = l }
+alone j x l = record { holder = j; low = x; stars = 0; before = some l }
 
 pub requests : In (kind (fed (asks 1))) asking
 unfolding kind word kindOf

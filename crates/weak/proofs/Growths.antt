@@ -33,13 +33,14 @@ use Rattle.frames.specs.declared.Parsed.the-variants.{Known}
 use Rattle.frames.specs.Parse.{parsed}
 use Rattle.cube.specs.Called.{setupRecord, delivered}
 use Rattle.cube.specs.Run.{Exchange, Exchanges, begin, _next_, fed, feed, recordAfter, heldAt}
-use Rattle.cube.specs.Demand3.{Demand3}
+use Rattle.cube.specs.Start.{setUp}
+use Rattle.cube.specs.Demand3.{ListRight}
 use Rattle.cube.proofs.Heard.{heard-back}
-use Rattle.cube.proofs.Theorem.{heard-is, demand3}
+use Rattle.cube.proofs.Theorem.{heard-is, from-set-up}
 use Rattle.weak.specs.Programs.{numberBy, recordBy, replyBy, by, Asks, growStep}
 use Rattle.weak.specs.Parts.{HeldDisjoint, HoldersRight}
 use Rattle.weak.specs.Growths.{growing, keeping, oldKept, othersFree, GrowthsRefuted}
-use Rattle.weak.proofs.Parts.{disjoint, holders, breaks}
+use Rattle.weak.proofs.Parts.{disjoint, holders, breaks-list}
 use Rattle.weak.proofs.Frames.{grows, outside, shared, parsed-good, parsed-asks, parsed-grow, told}
 use Rattle.weak.proofs.Holding.{dimension-of}
 use Rattle.weak.proofs.Made.{same-call, same-returned, same-reply, number-is, reply-is, record-is, delivered-number, delivered-reply}
@@ -124,8 +125,8 @@ module _ (b : List ℕ) (whole : length b ≡ recordSize) where
 
   -- ---- the old nodes held
 
-  four-nodes : Demand3 delivered 2 b
-  four-nodes = demand3 2 (omega arith) b whole
+  four-nodes : ListRight delivered (setUp delivered 2 b)
+  four-nodes = from-set-up 2 (omega arith) b whole
 
   abbrev r : List ℕ
   r = recordAfter delivered (setupRecord b 2) outside
@@ -135,17 +136,17 @@ module _ (b : List ℕ) (whole : length b ≡ recordSize) where
 
   accepted : numberOf answer ≡ 0
   accepted =
-      sym (delivered-number (growing oldKept) r grows (Grow 1 1 0) parsed-grow (four-nodes .list .recorded outside .valid) refl)
-      ∙ four-nodes .list .calls outside grows .returned ∙ ap numberOf (told .outside-granted)
+      sym (delivered-number (growing oldKept) r grows (Grow 1 1 0) parsed-grow (four-nodes .recorded outside .valid) refl)
+      ∙ four-nodes .calls outside grows .returned ∙ ap numberOf (told .outside-granted)
 
   answered : written (frameOf answer) (grows .buffer) ≡ replies (granted 1 0 1 1) (grows .buffer)
   answered =
-      sym (delivered-reply (growing oldKept) r grows (Grow 1 1 0) parsed-grow (four-nodes .list .recorded outside .valid) refl)
-      ∙ four-nodes .list .calls outside grows .replied ∙ ap (λ v. replies v (grows .buffer)) (told .outside-granted)
+      sym (delivered-reply (growing oldKept) r grows (Grow 1 1 0) parsed-grow (four-nodes .recorded outside .valid) refl)
+      ∙ four-nodes .calls outside grows .replied ∙ ap (λ v. replies v (grows .buffer)) (told .outside-granted)
 
   still-held : word (recordBy (growing oldKept) r (grows .frame) (grows .buffer)) (holdersAt + 2 * 2) ≡ 1
   still-held =
-      let before = four-nodes .list .recorded outside in
+      let before = four-nodes .recorded outside in
       ap (λ (r : List ℕ). word r (holdersAt + 2 * 2)) (record-is (growing oldKept) r grows (Grow 1 1 0) parsed-grow (before .valid) refl accepted)
       ∙ word-says (says-holders (keeping (decode r) answer) (sized-keeping (decode r) (sized-decode r) answer)) 2 (omega arith)
       ∙ kept-holder (decode r) answer (grows .buffer) answered
@@ -164,7 +165,7 @@ module _ (b : List ℕ) (whole : length b ≡ recordSize) where
 
   grants-both : othersFree (decode t) 1 1 0 .reply ≡ Granted 1 (numbered 0) 1 1
   grants-both =
-      let before = demand3 1 (omega arith) b whole .list .recorded shared in
+      let before = from-set-up 1 (omega arith) b whole .recorded shared in
       both-granted (decode t) (state-valid t (before .valid)) (dimension-of t ∙ before .dimension)
       (decode-condition t 0 (omega arith) ∙ before .conditions 0 (omega arith) ∙ told .both-good .0)
       (decode-condition t 1 (omega arith) ∙ before .conditions 1 (omega arith) ∙ told .both-good .1)
@@ -174,7 +175,7 @@ module _ (b : List ℕ) (whole : length b ≡ recordSize) where
   tells-both : heard (numberBy (growing othersFree) t (grows .frame) (grows .buffer)) (replyBy (growing othersFree) t (grows .frame) (grows .buffer))
       ≡ granted 1 0 1 1
   tells-both =
-      let v = demand3 1 (omega arith) b whole .list .recorded shared .valid in
+      let v = from-set-up 1 (omega arith) b whole .recorded shared .valid in
       ap₂ heard
       (number-is (growing othersFree) t grows (Grow 1 1 0) parsed-grow v refl ∙ ap numberOf grants-both)
       (reply-is (growing othersFree) t grows (Grow 1 1 0) parsed-grow v refl ∙ ap (λ a. written (frameOf a) (grows .buffer)) grants-both)
@@ -190,6 +191,6 @@ module _ (b : List ℕ) (whole : length b ≡ recordSize) where
 
   pub growths-refuted : GrowthsRefuted b
   growths-refuted = record {
-    old-kept = breaks HoldersRight holders (by (growing oldKept)) 2 b old-kept-wrong;
-    others-free = breaks HeldDisjoint disjoint (by (growing othersFree)) 1 b others-free-wrong;
+    old-kept = breaks-list HoldersRight holders (by (growing oldKept)) 2 b (omega arith) whole old-kept-wrong;
+    others-free = breaks-list HeldDisjoint disjoint (by (growing othersFree)) 1 b (omega arith) whole others-free-wrong;
   }

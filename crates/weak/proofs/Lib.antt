@@ -3,7 +3,9 @@ pub mod Parts
 pub mod Frames
 pub mod Made
 pub mod Holding
+pub mod OneNode
 pub mod Refuted
 pub mod Relabels
 pub mod Growths
 pub mod Stars
+pub mod Loads

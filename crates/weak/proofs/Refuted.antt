@@ -33,16 +33,18 @@ use Rattle.record.specs.Layout.{holdersAt, recordSize, encode, decode, validRec
 use Rattle.record.proofs.Round.{decode-holder, sized-decode, word-says, says-holders, valid-encode}
 use Rattle.cube.specs.Called.{setupRecord, delivered}
 use Rattle.cube.specs.Run.{Exchanges, begin, _next_, fed, recordAfter, number, reply, historyAt}
-use Rattle.cube.specs.Demand3.{Demand3}
+use Rattle.cube.specs.Start.{setUp}
+use Rattle.cube.specs.Demand3.{ListRight}
 use Rattle.steps.proofs.Ways.{state-valid}
 use Rattle.cube.proofs.Heard.{heard-back}
-use Rattle.cube.proofs.Theorem.{demand3}
+use Rattle.cube.proofs.Theorem.{from-set-up}
 use Rattle.weak.specs.Programs.{Asks, requestStep, requesting, byRequests}
 use Rattle.weak.specs.Programs.{answers14, unstarted, lowest, unrecorded, firstJob, plausible, anyTried}
 use Rattle.weak.specs.Parts.{NoneFreeRight, RefusalRight, HeldDisjoint, HoldersRight, ReplyRight, Refuted}
-use Rattle.weak.proofs.Parts.{none-free, refusal, disjoint, holders, replied, breaks}
+use Rattle.weak.proofs.Parts.{none-free, refusal, disjoint, holders, replied, breaks-list}
 use Rattle.weak.proofs.Frames.{good, asks, one, two, parsed-good, parsed-asks, requests, told}
 use Rattle.weak.proofs.Holding.{dimension-of, none-held, some-held}
+use Rattle.weak.proofs.OneNode.{stays-valid}
 use Rattle.weak.proofs.Made.{same-call, number-is, reply-is, record-is, delivered-number, delivered-reply, same-record}
 
 -- rows before others are not met where none is
@@ -53,34 +55,6 @@ front h c (r ∷ rs) ts m = (m .0, front h c rs ts (m .1))
 earlier-none : (n : ℕ) (h : History) (c : Call) → NoneMet (causes n) h c → NoneMet (earlier n) h c
 unfolding causes
 earlier-none n h c m = front h c (earlier n) (last n ∷ []) m
-
--- a node other than 0 is not of the subcube of node 0 alone
-elsewhere : (x : ℕ) → 0 < x → among x (vertices width 0 0) ≡ false
-unfolding among vertices
-elsewhere x h = rw (ne-eqb x 0 (λ z. absurd (omega arith)))
-
--- a state with node 0 given to a job
-stays-valid : (s : State) → Sized s → Valid s → (j : ℕ) → validRecord (encode (taken s (vertices width 0 0) j 0)) ≡ true
-stays-valid s z v j =
-    valid-encode t (taken-sized z (vertices width 0 0) j 0) ∙ means-valid t (z .directions) .shows record {
-      small = v .small;
-      permutes = v .permutes;
-      conditions = v .conditions;
-      no-conditions = v .no-conditions;
-      no-holders = λ x h l. entry (s .holders) j x l ∙ other x h ∙ v .no-holders x h l;
-      unstarred = λ x l e.
-          entry (s .stars) 0 x l
-          ∙ cases (among x (vertices width 0 0)) (λ b. rw b) (λ b. rw b (v .unstarred x l (rw b at (sym (entry (s .holders) j x l) ∙ e))));
-    }
-  where
-    t : State
-    t = taken s (vertices width 0 0) j 0
-
-    entry : (l : List ℕ) (v x : ℕ) → x < 1024 → getD (given l (vertices width 0 0) v) x 0 ≡ cond (among x (vertices width 0 0)) v (getD l x 0)
-    entry l v x h = getD-each (λ x. cond (among x (vertices width 0 0)) v (getD l x 0)) 0 1024 x h
-
-    other : (x : ℕ) → 2 ^ s .n ≤ x → cond (among x (vertices width 0 0)) j (getD (s .holders) x 0) ≡ getD (s .holders) x 0
-    other x h = rw (elsewhere x (lt-of-lt-of-le (pow-pos (s .n)) h))
 
 -- a plausible 'tried' keeps the number, and is not the true one of the second member
 same-number : (a : Reply) → numberOf (plausible a) ≡ numberOf a
@@ -96,11 +70,11 @@ tried-two (Refused m t) p e w = let same : _≡_ {A = ℕ} 0x8002 0x8001 = ap (�
 tried-two (Done v) p e w = let same : _≡_ {A = ℕ} 0x8003 0x8001 = ap (λ (p : List ℕ). word p 2) e in absurd (omega arith)
 
 module _ (b : List ℕ) (whole : length b ≡ recordSize) where
-  one-node : Demand3 delivered 0 b
-  one-node = demand3 0 (omega arith) b whole
+  one-node : ListRight delivered (setUp delivered 0 b)
+  one-node = from-set-up 0 (omega arith) b whole
 
-  two-nodes : Demand3 delivered 1 b
-  two-nodes = demand3 1 (omega arith) b whole
+  two-nodes : ListRight delivered (setUp delivered 1 b)
+  two-nodes = from-set-up 1 (omega arith) b whole
 
   -- the record before the first request is the delivered program's
   module _ (q : Asks) where
@@ -116,7 +90,7 @@ module _ (b : List ℕ) (whole : length b ≡ recordSize) where
         ∙ ap (λ (r : List ℕ). delivered .call-record r (good 1 .frame) (good 1 .buffer)) at-first
 
     valid-one : validRecord (recordAfter (byRequests q) (setupRecord b 0) one) ≡ true
-    valid-one = rw at-one (one-node .list .recorded one .valid)
+    valid-one = rw at-one (one-node .recorded one .valid)
 
     -- and after it, where it is told the same number and leaves the same state
     module _ (s : State) (e : decode (recordAfter (byRequests q) (setupRecord b 1) two) ≡ s)
@@ -124,17 +98,17 @@ module _ (b : List ℕ) (whole : length b ≡ recordSize) where
         (left : q s 1 0 0 .state ≡ requestStep s 1 0 0 .state) where
       at-later : recordAfter (byRequests q) (setupRecord b 1) (two next asks 1) ≡ recordAfter delivered (setupRecord b 1) (two next asks 1)
       at-later =
-          same-record (requesting q) _ (asks 1) (Request 1 0 0) (parsed-asks 1) (rw at-two (two-nodes .list .recorded two .valid)) refl (rw e a)
+          same-record (requesting q) _ (asks 1) (Request 1 0 0) (parsed-asks 1) (rw at-two (two-nodes .recorded two .valid)) refl (rw e a)
           (rw e left)
           ∙ ap (λ (r : List ℕ). delivered .call-record r (asks 1 .frame) (asks 1 .buffer)) at-two
 
       valid-later : validRecord (recordAfter (byRequests q) (setupRecord b 1) (two next asks 1)) ≡ true
-      valid-later = rw at-later (two-nodes .list .recorded (two next asks 1) .valid)
+      valid-later = rw at-later (two-nodes .recorded (two next asks 1) .valid)
 
   -- ---- a free member exists
 
   none-met : NoneMet (causes 0) (historyAt 0 one) (fed (asks 1))
-  none-met = one-node .list .calls one (asks 1) .accepted-by-none .0 (one-node .list .calls one (asks 1) .returned ∙ ap numberOf (told .one-granted))
+  none-met = one-node .calls one (asks 1) .accepted-by-none .0 (one-node .calls one (asks 1) .returned ∙ ap numberOf (told .one-granted))
 
   says-14 : (q : Asks) → ((s : State) → numberOf (q s 1 0 0 .reply) ≡ 14) → ¬ NoneFreeRight (byRequests q) 0 b
   says-14 q e claim =
@@ -147,9 +121,9 @@ module _ (b : List ℕ) (whole : length b ≡ recordSize) where
   tried-wrong : ¬ RefusalRight (byRequests unstarted) 0 b
   unfolding word words frameOf over strategy dimension
   tried-wrong claim =
-      let judged = one-node .list .calls begin (asks 1) in
+      let judged = one-node .calls begin (asks 1) in
       let refuses = judged .refused-by-first 14 (λ z. absurd (omega arith)) .0 (judged .returned ∙ ap numberOf (told .silent)) in
-      let said = reply-is (requesting unstarted) _ (asks 1) (Request 1 0 0) (parsed-asks 1) (one-node .list .recorded begin .valid) refl in
+      let said = reply-is (requesting unstarted) _ (asks 1) (Request 1 0 0) (parsed-asks 1) (one-node .recorded begin .valid) refl in
       let same : _≡_ {A = ℕ} 0 1 = ap (λ (p : List ℕ). word p 6) (sym said ∙ claim begin (asks 1) 14 refuses) in
       absurd (omega arith)
 
@@ -167,7 +141,7 @@ module _ (b : List ℕ) (whole : length b ≡ recordSize) where
   valid-next =
       let r = recordAfter (byRequests lowest) (setupRecord b 0) one in
       rw (record-is (requesting lowest) r (asks 1) (Request 1 0 0) (parsed-asks 1) (valid-one lowest) refl refl)
-      (stays-valid (decode r) (sized-decode r) (state-valid r (valid-one lowest)) 1)
+      (stays-valid (decode r) (sized-decode r) (state-valid r (valid-one lowest)) 1 0 (λ e. refl))
 
   lowest-wrong : ¬ HeldDisjoint (byRequests lowest) 0 b
   unfolding without vertices
@@ -190,11 +164,11 @@ module _ (b : List ℕ) (whole : length b ≡ recordSize) where
       let accepted : numberOf (requestStep (decode r) 1 0 0 .reply) ≡ 0 =
       sym (delivered-number (requesting unrecorded) r (asks 1) (Request 1 0 0) (parsed-asks 1) v refl)
       ∙ ap (λ (r : List ℕ). delivered .call-number r (asks 1 .frame) (asks 1 .buffer)) (at-one unrecorded)
-      ∙ one-node .list .calls one (asks 1) .returned ∙ ap numberOf (told .one-granted) in
+      ∙ one-node .calls one (asks 1) .returned ∙ ap numberOf (told .one-granted) in
       let left : word (recordAfter (byRequests unrecorded) (setupRecord b 0) (one next asks 1)) 16 ≡ 0 =
       ap (λ (r : List ℕ). word r 16) (record-is (requesting unrecorded) r (asks 1) (Request 1 0 0) (parsed-asks 1) v refl accepted)
       ∙ kept r 0 (omega arith) ∙ ap (λ (r : List ℕ). word r 16) (at-one unrecorded)
-      ∙ one-node .list .recorded one .holders 0 (omega arith) ∙ told .one-free in
+      ∙ one-node .recorded one .holders 0 (omega arith) ∙ told .one-free in
       let same : _≡_ {A = ℕ} 0 1 = sym left ∙ claim (one next asks 1) 0 (omega arith) ∙ told .one-held in
       absurd (omega arith)
 
@@ -205,8 +179,8 @@ module _ (b : List ℕ) (whole : length b ≡ recordSize) where
       let later = two next asks 1 in
       let g = asks 2 .frame in
       let p = asks 2 .buffer in
-      let before = two-nodes .list .recorded two in
-      let after = two-nodes .list .recorded later in
+      let before = two-nodes .recorded two in
+      let after = two-nodes .recorded later in
       let none : anyHeld (decode (recordAfter (byRequests firstJob) (setupRecord b 1) two)) ≡ false =
       rw (at-two firstJob)
       (none-held (decode (recordAfter delivered (setupRecord b 1) two)) (λ x h.
@@ -222,7 +196,7 @@ module _ (b : List ℕ) (whole : length b ≡ recordSize) where
       let accepted : numberOf (firstJob (decode r) 2 0 0 .reply) ≡ 0 =
       (rw some refl) ∙ sym (delivered-number (requesting firstJob) r (asks 2) (Request 2 0 0) (parsed-asks 2) v refl)
       ∙ ap (λ (r : List ℕ). delivered .call-number r g p) same
-      ∙ two-nodes .list .calls later (asks 2) .returned ∙ ap numberOf (told .second-granted) in
+      ∙ two-nodes .calls later (asks 2) .returned ∙ ap numberOf (told .second-granted) in
       let left : word (recordAfter (byRequests firstJob) (setupRecord b 1) (later next asks 2)) 18 ≡ 0 =
       ap (λ (r : List ℕ). word r 18) (record-is (requesting firstJob) r (asks 2) (Request 2 0 0) (parsed-asks 2) v refl accepted)
       ∙ (rw some (kept r 1 (omega arith)))
@@ -245,16 +219,16 @@ module _ (b : List ℕ) (whole : length b ≡ recordSize) where
       tried-two (requestStep (decode r) 2 0 0 .reply) p
       (sym (delivered-reply (requesting anyTried) r (asks 2) (Request 2 0 0) (parsed-asks 2) v refl)
       ∙ ap (λ (r : List ℕ). delivered .call-reply r g p) same
-      ∙ two-nodes .list .calls later (asks 2) .replied ∙ right)
+      ∙ two-nodes .calls later (asks 2) .replied ∙ right)
       (sym (reply-is (requesting anyTried) r (asks 2) (Request 2 0 0) (parsed-asks 2) v refl) ∙ claim later (asks 2) ∙ right)
 
   pub refuted : Refuted b
   refuted = record {
-    a-free-member-exists = breaks NoneFreeRight none-free (byRequests answers14) 0 b (says-14 answers14 (λ s. refl));
-    unstarted-free = breaks NoneFreeRight none-free (byRequests unstarted) 0 b (says-14 unstarted (λ s. refl));
-    unstarted-tried = breaks RefusalRight refusal (byRequests unstarted) 0 b tried-wrong;
-    not-disjoint = breaks HeldDisjoint disjoint (byRequests lowest) 0 b lowest-wrong;
-    record-unchanged = breaks HoldersRight holders (byRequests unrecorded) 0 b record-wrong;
-    over-the-list = breaks HoldersRight holders (byRequests firstJob) 1 b over-list-wrong;
-    place-in-the-order = breaks ReplyRight replied (byRequests anyTried) 1 b tried-of-two;
+    a-free-member-exists = breaks-list NoneFreeRight none-free (byRequests answers14) 0 b (omega arith) whole (says-14 answers14 (λ s. refl));
+    unstarted-free = breaks-list NoneFreeRight none-free (byRequests unstarted) 0 b (omega arith) whole (says-14 unstarted (λ s. refl));
+    unstarted-tried = breaks-list RefusalRight refusal (byRequests unstarted) 0 b (omega arith) whole tried-wrong;
+    not-disjoint = breaks-list HeldDisjoint disjoint (byRequests lowest) 0 b (omega arith) whole lowest-wrong;
+    record-unchanged = breaks-list HoldersRight holders (byRequests unrecorded) 0 b (omega arith) whole record-wrong;
+    over-the-list = breaks-list HoldersRight holders (byRequests firstJob) 1 b (omega arith) whole over-list-wrong;
+    place-in-the-order = breaks-list ReplyRight replied (byRequests anyTried) 1 b (omega arith) whole tried-of-two;
   }

@@ -25,12 +25,13 @@ use Rattle.state.proofs.Valid.{Sized}
 use Rattle.record.proofs.Round.{decode-holder, decode-condition, encode-map, sized-decode}
 use Rattle.cube.specs.Called.{setupRecord, delivered}
 use Rattle.cube.specs.Run.{Exchanges, begin, _next_, fed, recordAfter, historyAt}
-use Rattle.cube.specs.Demand3.{Demand3}
-use Rattle.cube.proofs.Theorem.{demand3}
+use Rattle.cube.specs.Start.{setUp}
+use Rattle.cube.specs.Demand3.{ListRight}
+use Rattle.cube.proofs.Theorem.{from-set-up}
 use Rattle.weak.specs.Programs.{by}
 use Rattle.weak.specs.Parts.{ReplyRight}
 use Rattle.weak.specs.Relabels.{Over, relabelling, faultyOnly, notFaulty, MapRight, RelabelsRefuted}
-use Rattle.weak.proofs.Parts.{replied, breaks}
+use Rattle.weak.proofs.Parts.{replied, breaks-list}
 use Rattle.weak.proofs.Frames.{good, one, across, relabels, parsed-good, parsed-relabel, told}
 use Rattle.weak.proofs.Holding.{dimension-of, none-held}
 use Rattle.weak.proofs.Made.{same-call, reply-is, record-is}
@@ -43,30 +44,30 @@ module _ (b : List ℕ) (whole : length b ≡ recordSize) where
     abbrev r : List ℕ
     r = recordAfter delivered (setupRecord b n) es
 
-    kept : Demand3 delivered n b
-    kept = demand3 n small b whole
+    kept : ListRight delivered (setUp delivered n b)
+    kept = from-set-up n small b whole
 
     below : (x : ℕ) → x < 2 ^ n → x < 1024
     below x h = lt-of-lt-of-le h (cube-le n small)
 
     dimension : decode r .n ≡ n
-    dimension = dimension-of r ∙ kept .list .recorded es .dimension
+    dimension = dimension-of r ∙ kept .recorded es .dimension
 
     none : anyHeld (decode r) ≡ false
     none =
         none-held (decode r)
-        (λ x h. let l = (rw dimension at h) in decode-holder r x (below x l) ∙ kept .list .recorded es .holders x l ∙ unheld x)
+        (λ x h. let l = (rw dimension at h) in decode-holder r x (below x l) ∙ kept .recorded es .holders x l ∙ unheld x)
 
     -- the conditions of the record are the history's
     condition : (x : ℕ) → x < 2 ^ n → getD (decode r .conditions) x 0 ≡ historyAt n es .condition x
-    condition x h = decode-condition r x (below x h) ∙ kept .list .recorded es .conditions x h
+    condition x h = decode-condition r x (below x h) ∙ kept .recorded es .conditions x h
 
     -- a relabel is told the size of the program's D, which the history's is by the claim
     sizes : (w : ℕ) → verdict n (historyAt n es) (fed relabels) ≡ Done w → ReplyRight (by (relabelling mapped sized)) n b
         → size (differing n (sized (decode r .conditions))) ≡ w
     unfolding guarded frameOf words word
     sizes w says claim =
-        let answer = reply-is (relabelling mapped sized) r relabels Relabel parsed-relabel (kept .list .recorded es .valid) refl in
+        let answer = reply-is (relabelling mapped sized) r relabels Relabel parsed-relabel (kept .recorded es .valid) refl in
         let told = sym (rw (none, dimension) at answer) ∙ (rw same at (claim es relabels)) ∙ ap (λ v. replies v (relabels .buffer)) says in
         omega (arith, ap (λ (p : List ℕ). word p 4) told)
 
@@ -77,7 +78,7 @@ module _ (b : List ℕ) (whole : length b ≡ recordSize) where
     unfolding guarded
     moved i h =
         let z = sized-decode r in
-        let stored = record-is (relabelling mapped sized) r relabels Relabel parsed-relabel (kept .list .recorded es .valid) refl (rw none refl) in
+        let stored = record-is (relabelling mapped sized) r relabels Relabel parsed-relabel (kept .recorded es .valid) refl (rw none refl) in
         let map = relabelled (decode r .n) (mapped (decode r .conditions)) in
         let long = relabel-permutes n small (mapped (decode r .conditions)) .entries in
         let moved-sized : Sized (withMap (decode r) map) = record {
@@ -128,7 +129,8 @@ module _ (b : List ℕ) (whole : length b ≡ recordSize) where
 
   pub relabels-refuted : RelabelsRefuted b
   relabels-refuted = record {
-    over-faulty = breaks ReplyRight replied (by (relabelling faultyOnly faultyOnly)) 1 b faulty-wrong;
-    over-not-faulty = breaks ReplyRight replied (by (relabelling notFaulty notFaulty)) 1 b not-faulty-wrong;
-    map-over-faulty = breaks MapRight (λ P n b d es. d .list .recorded es .directions) (by (relabelling faultyOnly notGood)) 2 b map-wrong;
+    over-faulty = breaks-list ReplyRight replied (by (relabelling faultyOnly faultyOnly)) 1 b (omega arith) whole faulty-wrong;
+    over-not-faulty = breaks-list ReplyRight replied (by (relabelling notFaulty notFaulty)) 1 b (omega arith) whole not-faulty-wrong;
+    map-over-faulty =
+        breaks-list MapRight (λ P n b d es. d .recorded es .directions) (by (relabelling faultyOnly notGood)) 2 b (omega arith) whole map-wrong;
   }

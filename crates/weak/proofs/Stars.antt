@@ -24,12 +24,13 @@ use Rattle.record.specs.Layout.{holdersAt, starsAt, recordSize, encode, decode}
 use Rattle.record.proofs.Round.{decode-holder, decode-star, word-says, says-holders, says-stars, sized-decode}
 use Rattle.cube.specs.Called.{setupRecord, delivered}
 use Rattle.cube.specs.Run.{_next_, recordAfter, number, reply}
-use Rattle.cube.specs.Demand3.{Demand3}
+use Rattle.cube.specs.Start.{setUp}
+use Rattle.cube.specs.Demand3.{ListRight}
 use Rattle.cube.proofs.Heard.{heard-back}
-use Rattle.cube.proofs.Theorem.{demand3}
+use Rattle.cube.proofs.Theorem.{from-set-up}
 use Rattle.weak.specs.Programs.{by, requestStep}
 use Rattle.weak.specs.Stars.{StarsRight, UnheldRight, marked, marking, leaving, StarsRefuted}
-use Rattle.weak.proofs.Parts.{breaks}
+use Rattle.weak.proofs.Parts.{breaks-list}
 use Rattle.weak.proofs.Frames.{good, pair, two, gives-back, parsed-good, parsed-pair, parsed-release, told}
 use Rattle.weak.proofs.Made.{same-call, number-is, reply-is, record-is, delivered-number, delivered-reply}
 
@@ -49,8 +50,8 @@ unmarked s (Refused m t) p e = refl
 unmarked s (Done v) p e = refl
 
 module _ (b : List ℕ) (whole : length b ≡ recordSize) where
-  right : Demand3 delivered 1 b
-  right = demand3 1 (omega arith) b whole
+  right : ListRight delivered (setUp delivered 1 b)
+  right = from-set-up 1 (omega arith) b whole
 
   abbrev r : List ℕ
   r = recordAfter delivered (setupRecord b 1) two
@@ -68,17 +69,17 @@ module _ (b : List ℕ) (whole : length b ≡ recordSize) where
 
   accepted : numberOf answer ≡ 0
   accepted =
-      sym (delivered-number marking r pair (Request 1 1 0) parsed-pair (right .list .recorded two .valid) refl)
-      ∙ right .list .calls two pair .returned ∙ ap numberOf (told .pair-granted)
+      sym (delivered-number marking r pair (Request 1 1 0) parsed-pair (right .recorded two .valid) refl)
+      ∙ right .calls two pair .returned ∙ ap numberOf (told .pair-granted)
 
   answered : written (frameOf answer) (pair .buffer) ≡ replies (granted 1 0 1 1) (pair .buffer)
   answered =
-      sym (delivered-reply marking r pair (Request 1 1 0) parsed-pair (right .list .recorded two .valid) refl)
-      ∙ right .list .calls two pair .replied ∙ ap (λ v. replies v (pair .buffer)) (told .pair-granted)
+      sym (delivered-reply marking r pair (Request 1 1 0) parsed-pair (right .recorded two .valid) refl)
+      ∙ right .calls two pair .replied ∙ ap (λ v. replies v (pair .buffer)) (told .pair-granted)
 
   tells-pair : heard (number (by marking) (setupRecord b 1) two pair) (reply (by marking) (setupRecord b 1) two pair) ≡ granted 1 0 1 1
   tells-pair =
-      let v = right .list .recorded two .valid in
+      let v = right .recorded two .valid in
       rw at-two (ap₂ heard
       (number-is marking r pair (Request 1 1 0) parsed-pair v refl ∙ accepted)
       (reply-is marking r pair (Request 1 1 0) parsed-pair v refl ∙ answered)
@@ -86,7 +87,7 @@ module _ (b : List ℕ) (whole : length b ≡ recordSize) where
 
   second-unmarked : word (recordAfter (by marking) (setupRecord b 1) (two next pair)) (starsAt + 2 * 1) ≡ 0
   second-unmarked =
-      let before = right .list .recorded two in
+      let before = right .recorded two in
       rw at-two (ap (λ (l : List ℕ). word l (starsAt + 2 * 1)) (record-is marking r pair (Request 1 1 0) parsed-pair (before .valid) refl accepted)
       ∙ word-says (says-stars (marked (decode r) answer) (sized-marked (decode r) (sized-decode r) answer)) 1 (omega arith)
       ∙ unmarked (decode r) answer (pair .buffer) answered
@@ -121,22 +122,22 @@ module _ (b : List ℕ) (whole : length b ≡ recordSize) where
 
   released : recordAfter (by leaving) (setupRecord b 1) (two next pair next gives-back) ≡ encode left
   released =
-      let before = right .list .recorded (two next pair) in
+      let before = right .recorded (two next pair) in
       let done = sym (delivered-number leaving t gives-back (Release 1) parsed-release (before .valid) refl)
-      ∙ right .list .calls (two next pair) gives-back .returned ∙ ap numberOf (told .pair-released) in
+      ∙ right .calls (two next pair) gives-back .returned ∙ ap numberOf (told .pair-released) in
       rw at-pair (record-is leaving t gives-back (Release 1) parsed-release (before .valid) refl done)
 
   first-unheld : word (encode left) (holdersAt + 2 * 0) ≡ 0
   first-unheld =
       let held : getD (decode t .holders) 0 0 ≡ 1 =
-      decode-holder t 0 (omega arith) ∙ right .list .recorded (two next pair) .holders 0 (omega arith) ∙ told .pair-held in
+      decode-holder t 0 (omega arith) ∙ right .recorded (two next pair) .holders 0 (omega arith) ∙ told .pair-held in
       word-says (says-holders left left-sized) 0 (omega arith)
       ∙ getD-each (λ x. cond (eqb (getD (decode t .holders) x 0) 1) 0 (getD (decode t .holders) x 0)) 0 1024 0 (omega arith) ∙ (rw held refl)
 
   still-starred : word (encode left) (starsAt + 2 * 0) ≡ 1
   still-starred =
       word-says (says-stars left left-sized) 0 (omega arith)
-      ∙ decode-star t 0 (omega arith) ∙ right .list .recorded (two next pair) .stars 0 (omega arith) ∙ told .pair-starred
+      ∙ decode-star t 0 (omega arith) ∙ right .recorded (two next pair) .stars 0 (omega arith) ∙ told .pair-starred
 
   release-wrong : ¬ UnheldRight (by leaving) 1 b
   release-wrong claim =
@@ -146,6 +147,6 @@ module _ (b : List ℕ) (whole : length b ≡ recordSize) where
 
   pub stars-refuted : StarsRefuted b
   stars-refuted = record {
-    lowest-only = breaks StarsRight (λ P n b d. d .list .starred) (by marking) 1 b lowest-wrong;
-    left-at-release = breaks UnheldRight (λ P n b d. d .list .unstarred) (by leaving) 1 b release-wrong;
+    lowest-only = breaks-list StarsRight (λ P n b d. d .starred) (by marking) 1 b (omega arith) whole lowest-wrong;
+    left-at-release = breaks-list UnheldRight (λ P n b d. d .unstarred) (by leaving) 1 b (omega arith) whole release-wrong;
   }

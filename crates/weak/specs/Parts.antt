@@ -1,8 +1,9 @@
 -- The parts of the demands that the right-hand column of document 01's table names, as claims about a program; that each follows from demand 3, and
 -- that the six break them.
-use Prim.Native.Nat.{ℕ, _+_, _*_, _^_, _<_}
+use Prim.Native.Nat.{ℕ, _+_, _*_, _^_, _<_, _≤_}
 use mathlib.Core.Path.{_≡_}
 use mathlib.Core.List.{List, []}
+use lib.ListN.{length}
 use Rattle.hypercube.specs.Lists.{In}
 use Rattle.hypercube.specs.Words.{word}
 use Rattle.hypercube.specs.declared.Reply.the-variants.{Refused}
@@ -11,7 +12,7 @@ use Rattle.history.specs.Calls.{kind, ask, asking}
 use Rattle.history.specs.Causes.{First, NoneMet, NoMemberFree, earlier, causes}
 use Rattle.history.specs.Verdicts.{tried, verdict}
 use Rattle.history.specs.Held.{Disjoint}
-use Rattle.record.specs.Layout.{holdersAt}
+use Rattle.record.specs.Layout.{holdersAt, recordSize}
 use Rattle.cube.specs.Called.{Program}
 use Rattle.cube.specs.Demand3.{Demand3}
 use Rattle.cube.specs.Run.{Exchange, Exchanges, fed, recordAfter, number, reply, heldAt, historyAt}
@@ -48,9 +49,9 @@ module _ (P : Program) (n : ℕ) (b : List ℕ) where
 
 -- a program that meets demand 3 has the part, whichever it is; P is without it, and so does not meet demand 3
 pub record Breaks (Part : Program → ℕ → List ℕ → Type 0) (P : Program) (n : ℕ) (b : List ℕ) : Type 0 where
-  pub follows : (Q : Program) (m : ℕ) (c : List ℕ) → Demand3 Q m c → Part Q m c
+  pub follows : (Q : Program) (m : ℕ) (c : List ℕ) → m ≤ 10 → length c ≡ recordSize → Demand3 Q → Part Q m c
   pub part : ¬ Part P n b
-  pub demand : ¬ Demand3 P n b
+  pub demand : ¬ Demand3 P
 
 -- on any buffer of the record's size, b
 pub record Refuted (b : List ℕ) : Type 0 where

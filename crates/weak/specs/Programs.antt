@@ -22,7 +22,7 @@ use Rattle.record.specs.Layout.{encode, decode, validRecord}
 use Rattle.frames.specs.declared.Parsed.{Parsed}
 use Rattle.frames.specs.declared.Parsed.the-variants.{Known, Bad}
 use Rattle.frames.specs.Parse.{parsed}
-use Rattle.cube.specs.Called.{Program, setupNumber, setupRecord}
+use Rattle.cube.specs.Called.{Program, setupNumber, setupRecord, loadNumber}
 
 -- what a call does to a state
 abbrev pub Acts : Type 0
@@ -43,7 +43,14 @@ replyBy a r f p = cond (validRecord r) (cond (ltb (length p) 12) p (written (fra
 
 -- the program that does this on a call
 abbrev pub by : Acts → Program
-by a = record { setup-number = setupNumber; setup-record = setupRecord; call-number = numberBy a; call-record = recordBy a; call-reply = replyBy a }
+by a = record {
+  setup-number = setupNumber;
+  setup-record = setupRecord;
+  load-number = loadNumber;
+  call-number = numberBy a;
+  call-record = recordBy a;
+  call-reply = replyBy a;
+}
 
 -- what a request or a growth by job j for dimension k under strategy f does to a state
 abbrev pub Asks : Type 0

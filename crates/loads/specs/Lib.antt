@@ -1,0 +1,3 @@
+-- What the parts of the loading test find.
+pub mod Pass
+pub mod Marks
