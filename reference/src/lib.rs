@@ -3,8 +3,8 @@
 //! It is written from document 01 ("Partition manager for binary hypercubes")
 //! and document 02, the requests after it, alone, and is what the proved
 //! program is compared with in test runs.
-//! `setup` and `call` work on byte slices, as the C boundary of document 01
-//! does; `choose` and `family` answer for the four strategies by label.
+//! `setup`, `call` and `load` work on byte slices, as the C boundary does;
+//! `choose` and `family` answer for the four strategies by label.
 
 #![forbid(unsafe_code)]
 
@@ -18,6 +18,7 @@ pub mod frame;
 pub mod gen;
 pub mod growths;
 pub mod health;
+pub mod load;
 pub mod log;
 mod noise;
 pub mod record;
@@ -31,5 +32,6 @@ pub use choose::{choose, Answer};
 pub use cube::{label, node, relabel, Map, IDENTITY, MAX_N};
 pub use family::{family, gray, Subcube};
 pub use frame::Reply;
+pub use load::load;
 pub use record::setup;
 pub use tally::Tally;

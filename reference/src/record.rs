@@ -152,6 +152,15 @@ pub fn jobs(record: &Record) -> Vec<u16> {
     jobs
 }
 
+/// The nodes that are held, each behind its job, by job and then by node.
+pub fn held_nodes(record: &Record) -> Vec<(u16, u16)> {
+    let holders = holders(record).chunks_exact(2);
+    let jobs = holders.map(|bytes| u16::from_le_bytes([bytes[0], bytes[1]]));
+    let mut held: Vec<(u16, u16)> = jobs.zip(0..).filter(|(job, _)| *job != 0).collect();
+    held.sort_by_key(|(job, _)| *job); // a job's nodes stay ascending
+    held
+}
+
 /// How many nodes a job holds, good or not.
 pub fn held(record: &Record, job: u16) -> u16 {
     let holders = holders(record).chunks_exact(2);

@@ -1,35 +1,42 @@
-//! Calls compared with a plain account of them, as document 01's history is.
+//! A plain account of a list of calls, as document 01's history is.
 
-use cube_reference::gen::Log;
+use cube_reference::family;
 use cube_reference::rng::Rng;
-use cube_reference::{call, family};
 
-use crate::held::Held;
 use crate::support::*;
 
-#[derive(Clone)]
-struct History {
+pub struct History {
     n: u32,
     /// The new direction of each direction up to n.
     map: Vec<u32>,
-    condition: Vec<u8>,
+    pub condition: Vec<u8>,
     holder: Vec<u16>,
     /// The star bits of the grant that holds a node.
     stars: Vec<u16>,
 }
 
 /// A reply's fields after its length.
-type Words = Vec<u16>;
+pub type Words = Vec<u16>;
 
 impl History {
-    fn fresh(n: u32) -> History {
+    pub fn fresh(n: u32) -> History {
         let (map, nodes) = ((1..=n).collect(), 1 << n);
         let (condition, holder, stars) = (vec![0; nodes], vec![0; nodes], vec![0; nodes]);
         History { n, map, condition, holder, stars }
     }
 
+    /// A record's, where a list begins at it: its holders and star bits stand as
+    /// granted, its conditions as reported, and its map.
+    pub fn of(record: &[u8]) -> History {
+        let (n, nodes) = (record[4].into(), 0..1 << record[4]);
+        let map = record[5..][..usize::from(record[4])].iter().map(|new| (*new).into()).collect();
+        let words = |part| nodes.clone().map(|node: usize| at(record, part + 2 * node)).collect();
+        let condition = record[CONDITIONS..][nodes.clone()].to_vec();
+        History { n, map, condition, holder: words(HOLDERS), stars: words(STARS) }
+    }
+
     /// A state that passes refusal 1 and need not come from calls.
-    fn any(n: u32, rng: &mut Rng) -> History {
+    pub fn any(n: u32, rng: &mut Rng) -> History {
         let mut state = History::fresh(n);
         for i in (1..state.map.len()).rev() {
             state.map.swap(i, rng.below(i as u32 + 1) as usize);
@@ -66,7 +73,7 @@ impl History {
         }
     }
 
-    fn record(&self) -> Vec<u8> {
+    pub fn record(&self) -> Vec<u8> {
         let mut bytes = vec![0x10, 0x14, 2, 0, self.n as u8];
         bytes.extend(self.map.iter().map(|direction| *direction as u8));
         bytes.extend(self.n as u8 + 1..=10);
@@ -80,12 +87,18 @@ impl History {
         bytes
     }
 
+    /// How many held nodes aren't good.
+    pub fn bad_held(&self) -> usize {
+        let nodes = self.holder.iter().zip(&self.condition);
+        nodes.filter(|(job, condition)| **job != 0 && **condition != 1).count()
+    }
+
     fn label(&self, node: usize) -> usize {
         (1..).zip(&self.map).map(|(i, new)| (node >> (i - 1) & 1) << (new - 1)).sum()
     }
 
     /// The number returned, and the reply's words; none for refusal 2.
-    fn call(&mut self, frame: &[u8], reply: usize) -> (u16, Option<Words>) {
+    pub fn call(&mut self, frame: &[u8], reply: usize) -> (u16, Option<Words>) {
         if reply < 12 {
             return (2, None);
         }
@@ -196,50 +209,4 @@ fn is_free(low: u32, stars: u32, free: &[bool]) -> bool {
     }
     let highest = 1 << stars.ilog2();
     is_free(low, stars - highest, free) && is_free(low + highest, stars - highest, free)
-}
-
-/// Makes the calls of a random list on the record and in the history, and
-/// compares the number, the reply and the whole record after each. Gives the
-/// record, and what the list was granted and still holds.
-fn compare(history: &mut History, seed: u64, count: u64, rng: &mut Rng) -> (Vec<u8>, Held) {
-    let (mut record, mut held) = (history.record(), Held::default());
-    let mut log = Log::new(seed, count, record[..].try_into().unwrap());
-    for _ in 0..count {
-        let frame = &log.next(record[..].try_into().unwrap());
-        let length = rng.pick(&[12, 12, 12, 12, 12, 12, 13, 40, 11, 0]);
-        let (number, words) = history.call(frame, length);
-        let mut expected = vec![0xcc; length];
-        if let Some(words) = words {
-            let size = 2 + 2 * words.len();
-            let bytes = two(size as u16).into_iter().chain(words.into_iter().flat_map(two));
-            expected.splice(..size, bytes);
-        }
-        let mut reply = vec![0xcc; length];
-        assert_eq!(call(&mut record, frame, &mut reply), number.into(), "{seed} {frame:x?}");
-        assert_eq!(reply, expected, "seed {seed}, frame {frame:x?}");
-        assert!(record == history.record(), "record, seed {seed}, frame {frame:x?}");
-        if number == 0 {
-            held.add(frame, &reply);
-        }
-    }
-    (record, held)
-}
-
-#[test]
-fn lists_of_calls_follow_the_history() {
-    let mut rng = Rng::new(2);
-    for seed in 0..44 {
-        let mut history = History::fresh((seed % 11) as u32);
-        let (record, held) = compare(&mut history, seed, 1200, &mut rng);
-        held.stands_in(&record);
-    }
-}
-
-#[test]
-fn calls_on_any_valid_record_follow_it_too() {
-    let mut rng = Rng::new(3);
-    for seed in 0..1100 {
-        let mut history = History::any((seed % 11) as u32, &mut rng);
-        compare(&mut history, seed, 40, &mut rng);
-    }
 }
