@@ -1,10 +1,15 @@
 //! Random lists of calls to the proved library and to the second program:
 //! after every call the number, every byte of the record and every byte of
-//! the reply are compared. `cube-compare [CALLS [SEED]]`.
+//! the reply are compared, and what the loading call makes of the record and of
+//! others. `cube-compare [CALLS [SEED]]`.
 
+mod changes;
 mod input;
+mod loads;
 mod pair;
 mod seen;
+mod subcubes;
+mod wholes;
 
 use cube_reference::drawn::List;
 use cube_reference::gen::Log;
@@ -43,13 +48,16 @@ fn main() {
     }
 }
 
-/// One list of calls; the seed's remainder by 11 is n. Seven lists of ten start
-/// at a record that set-up did not leave, one at a damaged one.
+/// One list of calls; the seed's remainder by 11 is n. Of ten lists one starts at
+/// a damaged record, six at one that perhaps doesn't load, two at one that does,
+/// and one at a fresh one.
 fn list(seed: u64, seen: &mut Seen) -> Result<u64, String> {
     let n = (seed % 11) as u32;
     let rng = &mut Rng::new(seed ^ 0x5ca1_ab1e);
     let mut pair = start(rng, n)?;
     seen.add_start(&pair.reference);
+    let loads = pair.load()? == 0;
+    seen.loads.add_start(&pair.cube(n), loads);
     let count = 60 + u64::from(rng.below(400));
     let mut log = Log::new(seed, count, &pair.cube(n));
     let mut list = List::default();
@@ -66,6 +74,8 @@ fn list(seed: u64, seen: &mut Seen) -> Result<u64, String> {
         })?;
         seen.add(&frame, number);
         list.add(&frame, number, &before, &pair.cube(n));
+        loads::after_call(rng, &pair, n, loads, &mut seen.loads)
+            .map_err(|what| format!("call {place}, load: {what}"))?;
     }
     seen.drawn[dimension(&pair.cube(n)) as usize] += list.drawn;
     Ok(count)
@@ -77,7 +87,8 @@ fn start(rng: &mut Rng, n: u32) -> Result<Pair, String> {
             let record = input::valid_record(rng, n);
             Ok(Pair::new(input::damaged(rng, record)))
         }
-        1..8 => Ok(Pair::new(input::valid_record(rng, n).to_vec())),
+        1..7 => Ok(Pair::new(input::valid_record(rng, n).to_vec())),
+        7..9 => Ok(Pair::new(subcubes::loaded(rng, n).to_vec())),
         _ => fresh(rng, n),
     }
 }

@@ -47,6 +47,14 @@ impl Pair {
         Ok(got)
     }
 
+    /// The loading call, of both; it leaves every byte of the record.
+    pub fn load(&self) -> Outcome {
+        let got = proved::load(&self.proved);
+        let expected = reference::load(&self.reference);
+        self.same(got, expected)?;
+        Ok(got)
+    }
+
     fn same(&self, got: u32, expected: u32) -> Result<(), String> {
         if got != expected {
             return Err(format!("returned {got}, expected {expected}"));

@@ -6,6 +6,8 @@ use cube_reference::drawn::Drawn;
 use cube_reference::record::{dimension, holder, is_valid, set_stars, stars, Record, NODES};
 use cube_reference::{growths, stars as star_bits};
 
+use crate::loads::Loads;
+
 /// So often at least is each number to be met.
 const NUMBER: u64 = 20;
 
@@ -33,6 +35,7 @@ pub struct Seen {
     /// Lists that begin where star bits alone make it no record: those of a
     /// node below 2^n, or of one beyond.
     starred: [u64; 2],
+    pub loads: Loads,
 }
 
 impl Seen {
@@ -51,7 +54,8 @@ impl Seen {
     /// What came too seldom, in words.
     pub fn rare(&self) -> Option<String> {
         let by_call = self.rare_number().or_else(|| self.rare_relabel());
-        by_call.or_else(|| self.rare_sort()).or_else(|| self.rare_start())
+        let by_list = || self.rare_sort().or_else(|| self.rare_start());
+        by_call.or_else(by_list).or_else(|| self.loads.rare())
     }
 
     fn rare_number(&self) -> Option<String> {
@@ -110,7 +114,7 @@ impl Display for Seen {
         for ((sort, _), count) in star_bits::SORTS.iter().zip(sum.stars.0) {
             write!(to, ", {count} {sort}")?;
         }
-        Ok(())
+        write!(to, "; {}", self.loads)
     }
 }
 

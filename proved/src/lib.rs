@@ -1,4 +1,4 @@
-//! The two proved functions, as `include/cube.h` declares them, and frames for
+//! The three proved functions, as `include/cube.h` declares them, and frames for
 //! them. `rt staticlib cube` comes first.
 
 pub mod frame;
@@ -16,6 +16,7 @@ extern "C" {
         reply: *mut u8,
         reply_len: usize,
     ) -> u32;
+    fn cube_load(record: *const u8, record_len: usize) -> u32;
 }
 
 pub fn setup(record: &mut [u8], n: u32) -> u32 {
@@ -35,4 +36,9 @@ pub fn call(record: &mut [u8], frame: &[u8], reply: &mut [u8]) -> u32 {
             reply.len(),
         )
     }
+}
+
+pub fn load(record: &[u8]) -> u32 {
+    // The buffer is lent for the call, which writes nothing to it.
+    unsafe { cube_load(record.as_ptr(), record.len()) }
 }
