@@ -1,7 +1,8 @@
 // The edges of document 01, and the causes in pairs: where two rows of the table are met at once, the first wins; then those of relabels,
-// growths and star bits. Each line has the number returned and the six words of the reply buffer, which held 61166 in each before the call.
+// growths, star bits and loading. Each line has the number returned and the six words of the reply buffer, which held 61166 in each before the call.
 mod growth_causes;
 mod growths;
+mod loading;
 mod printed;
 mod relabels;
 mod star_bits;
@@ -221,4 +222,5 @@ fn main() {
     growths::growths();
     star_records::star_records();
     star_bits::star_bits();
+    loading::loads();
 }

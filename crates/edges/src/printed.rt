@@ -26,6 +26,11 @@ pub(crate) fn set_up(name: &[u8], rec: &mut [u8], n: u32) {
     io::write_all(STDOUT_FILENO, b"\n");
 }
 
+pub(crate) fn load(name: &[u8], rec: &[u8]) {
+    print_number(name, cube::cube_load(rec));
+    io::write_all(STDOUT_FILENO, b"\n");
+}
+
 fn print_reply(name: &[u8], number: u32, r: [u8; 12]) {
     print_number(name, number);
     io::write_all(STDOUT_FILENO, b",");

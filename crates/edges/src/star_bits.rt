@@ -35,7 +35,7 @@ fn print_stars(rec: &[u8; record::SIZE]) {
     io::write_all(STDOUT_FILENO, b"\n");
 }
 
-fn print_nodes(rec: &[u8; record::SIZE]) {
+pub(crate) fn print_nodes(rec: &[u8; record::SIZE]) {
     print_holders(rec);
     print_stars(rec);
 }
