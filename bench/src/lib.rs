@@ -2,7 +2,9 @@
 
 mod given;
 pub mod growths;
+mod held;
 pub mod limit;
+pub mod loads;
 pub mod options;
 pub mod parts;
 pub mod patterns;

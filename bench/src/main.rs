@@ -19,6 +19,9 @@ use table::Line;
 /// request or a growth at n = 10 that walks by another strategy than Gray, the
 /// limit.
 fn programs(row: &Row) -> Vec<Call> {
+    if row.is_load() {
+        return vec![|record, _, _| proved::load(record), |record, _, _| reference::load(record)];
+    }
     let asks = [[0x01, 0x02], [0x04, 0x02]].iter().any(|kind| row.call[2..4] == *kind);
     let walks = || row.after(reference::call).iter().all(|after| [0, 14].contains(&after.0));
     let mut programs: Vec<Call> = vec![proved::call, reference::call];
@@ -42,7 +45,7 @@ fn lines(rows: &[Row]) -> Vec<Line> {
     let line = |(row, times): (&Row, &Times)| Line {
         name: row.to_string(),
         unit: "ns",
-        refused: row.after(proved::call).iter().any(|after| after.0 != 0),
+        refused: row.after(programs(row)[0]).iter().any(|after| after.0 != 0),
         took: times.of_calls(),
         second: times.median(),
     };

@@ -2,7 +2,7 @@
 
 use crate::options::Options;
 use crate::rows::{self, Row};
-use crate::{growths, patterns, relabels, stars};
+use crate::{growths, loads, patterns, relabels, stars};
 
 /// Rows with a title, and whether each of them is of interest by itself.
 pub struct Part {
@@ -37,7 +37,8 @@ pub fn all(options: &Options) -> Vec<Part> {
         .chain(patterns::relabelled(10))
         .chain(patterns::small(7))
         .chain(patterns::small(4))
-        .chain(growths::all());
+        .chain(growths::all())
+        .chain(loads::all());
     let patterns = patterns.map(|(title, rows)| Part { title, rows, each: false });
     calls().into_iter().chain(patterns).filter(|part| options.wants(&part.title)).collect()
 }

@@ -7,7 +7,7 @@ pub use cube_reference::record::Record;
 use cube_reference::session::fresh;
 use std::fmt;
 
-/// The frame call of a program.
+/// The frame call of a program; or its loading call, which leaves frame and reply.
 pub type Call = fn(&mut [u8], &[u8], &mut [u8]) -> u32;
 
 /// A call that is timed on each of these records in turn: often on one alone.
@@ -15,6 +15,7 @@ pub struct Row {
     pub name: String,
     pub n: u32,
     pub starts: Vec<Record>,
+    /// The frame; of no bytes where the loading call is timed.
     pub call: Vec<u8>,
 }
 
@@ -22,6 +23,11 @@ pub struct Row {
 pub type After = (u32, [u8; 12], Record);
 
 impl Row {
+    /// Whether it is the loading call that is timed.
+    pub fn is_load(&self) -> bool {
+        self.call.is_empty()
+    }
+
     /// What a program makes of each record.
     pub fn after(&self, program: Call) -> Vec<After> {
         let after = |start: &Record| {

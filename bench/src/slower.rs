@@ -28,8 +28,40 @@ macro_rules! frame_call {
     }};
 }
 
-const NEWER: Call = frame_call!(newer_cube_call);
-const OLDER: Call = frame_call!(older_cube_call);
+/// `cube_load` of one build likewise.
+#[cfg(feature = "loads")]
+macro_rules! loading_call {
+    ($name:ident) => {{
+        extern "C" {
+            fn $name(record: *const u8, record_len: usize) -> u32;
+        }
+        |record: &mut [u8], _: &[u8], _: &mut [u8]| {
+            // The buffer is lent for the call.
+            unsafe { $name(record.as_ptr(), record.len()) }
+        }
+    }};
+}
+
+/// The newer build's call and the older one's.
+type Builds = [Call; 2];
+
+const FRAMES: Builds = [frame_call!(newer_cube_call), frame_call!(older_cube_call)];
+
+#[cfg(feature = "loads")]
+const LOADS: Option<Builds> =
+    Some([loading_call!(newer_cube_load), loading_call!(older_cube_load)]);
+
+#[cfg(not(feature = "loads"))]
+const LOADS: Option<Builds> = None;
+
+/// What answers a row; nothing if a build hasn't its call.
+fn builds(row: &Row) -> Option<Builds> {
+    if row.is_load() {
+        LOADS
+    } else {
+        Some(FRAMES)
+    }
+}
 
 /// What is still taken for equal.
 const TENTH: f64 = 1.1;
@@ -39,11 +71,14 @@ fn print(row: &Row, times: &Times) {
     println!("{row:74} {:>8.0} ns {:>9.0} {ratio:>6.2}", took[0], took[1]);
 }
 
+fn answered_alike(row: &Row) -> bool {
+    builds(row).is_some_and(|[newer, older]| row.after(newer) == row.after(older))
+}
+
 /// The rows of a part that both builds answer alike, and how many there are
 /// besides; these are not timed, and named one by one unless they are all.
 fn by_answer(part: Part) -> (Vec<Row>, usize) {
-    let (same, others): (Vec<_>, Vec<_>) =
-        part.rows.into_iter().partition(|row| row.after(NEWER) == row.after(OLDER));
+    let (same, others): (Vec<_>, Vec<_>) = part.rows.into_iter().partition(answered_alike);
     if same.is_empty() {
         println!("{:74} answered differently, {} rows", part.title, others.len());
     } else {
@@ -61,7 +96,7 @@ fn main() -> ExitCode {
         let in_doubt = |times: &Times| times.slower() > TENTH;
         let (rows, others) = by_answer(part);
         other += others;
-        let times = time::times(&rows, |_| vec![NEWER, OLDER], in_doubt);
+        let times = time::times(&rows, |row| builds(row).expect("they answer").to_vec(), in_doubt);
         for (row, times) in rows.iter().zip(times) {
             if options.all || times.slower() > TENTH {
                 print(row, &times);
