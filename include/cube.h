@@ -1,8 +1,9 @@
-/* The partition manager for one binary hypercube: set-up and the frame call.
+/* The partition manager for one binary hypercube: set-up, the loading call and
+ * the frame call.
  *
- * Link with libcube.a. Both functions always return, keep nothing between
- * calls and need no heap; they call nothing but memcpy and memset. They may
- * run in several threads at once on different buffers.
+ * Link with libcube.a. The functions always return, keep nothing between calls
+ * and need no heap; they call nothing but memcpy and memset. They may run in
+ * several threads at once on different buffers.
  *
  * The record is CUBE_RECORD_SIZE bytes that belong to the host: one record for
  * each cube. A frame is one call; the reply is written into a buffer of the
@@ -13,11 +14,11 @@
  *
  * The record has a holder, a condition and star bits for each node x. The star
  * bits, at CUBE_STARS_AT + 2x, are those of the grant that holds the node, as
- * its reply has them, in node numbers; 0 if the node is unheld. From set-up on
- * all nodes of a job have the same, and are its lowest node with each
- * combination of these bits set. A grant writes them at each node that it
- * gives; a release writes 0, and so does a growth at the nodes that its job
- * loses. Past refusal 1 no call goes by them.
+ * its reply has them, in node numbers; 0 if the node is unheld. From set-up on,
+ * or from a record that cube_load gave 0, all nodes of a job have the same, and
+ * are its lowest node with each combination of these bits set. A grant writes
+ * them at each node that it gives; a release writes 0, and so does a growth at
+ * the nodes that its job loses. Past refusal 1 no frame call goes by them.
  *
  * Frames: length, kind, then
  *   good      0x0101, length 6:  node
@@ -50,6 +51,7 @@
  * Returned: 0 if the call was accepted, else the number of the first cause
  * that it meets, in this order:
  *    1  the record is not one                      record and reply untouched
+ *   18  cube_load alone: a job's nodes and star bits don't form a subcube
  *    2  the reply buffer has under 12 bytes        record and reply untouched
  *    3  frame under 4 bytes, or its length field isn't its size
  *    4  kind not one of the seven
@@ -72,8 +74,9 @@
  * CUBE_RECORD_KIND, n is at most 10, the map permutes 1 to n and leaves what is
  * above, the byte behind it is 0, conditions are at most 2, nodes from 2^n up
  * have holder and condition 0, and unheld nodes, these included, have star
- * bits 0. Below 2^n any holders pass, and at a held node any star bits. So a
- * record of kind 0x0001, which has no star bits, is refused.
+ * bits 0. Below 2^n any holders pass, and at a held node any star bits: these
+ * are for cube_load to test. So a record of kind 0x0001, which has no star
+ * bits, is refused.
  */
 #ifndef CUBE_H
 #define CUBE_H
@@ -100,6 +103,23 @@ extern "C" {
  * Returns 0; or 1 if record_len isn't CUBE_RECORD_SIZE; or 7 if n is above
  * 10. A refused set-up writes nothing. */
 uint32_t cube_setup(uint8_t *record, size_t record_len, uint32_t n);
+
+/* Tells whether a list of calls may begin at `record`, as one that comes back
+ * from disk. It takes any bytes and writes nothing. Returns 0, or
+ *    1  the record is not one, as said above
+ *   18  the nodes of some job are not exactly those of one subcube whose star
+ *       bits each of them has
+ * 1 comes before 18. The subcube is the job's lowest node with each combination
+ * of the star bits set; these are below 2^n, and none is set in that node.
+ * 18 doesn't ask for conditions: a held node may be faulty.
+ *
+ * After a 0 all that holds of calls from set-up on holds from this record on:
+ * what is held there counts as granted before, its conditions as reported, its
+ * map as standing, and only nodes granted since are said to have been good when
+ * granted. Every record that calls leave, from set-up on or from such a record
+ * on, loads with 0. The frame call doesn't test it: a record that meets 18 and
+ * not 1 is served as before, and nothing is promised of its subcubes. */
+uint32_t cube_load(const uint8_t *record, size_t record_len);
 
 /* Carries out one frame on a record and writes its reply. */
 uint32_t cube_call(uint8_t *record, size_t record_len,
