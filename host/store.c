@@ -11,9 +11,14 @@
 
 #include "fail.h"
 
+/* What to do about a file that is refused: one that no daemon leaves so, and one of another release. */
+#define OR_A_FRESH_CUBE "or move the file away and start with N for a fresh cube; the file is left as it is"
+#define IF_DAMAGED "put a copy back that a daemon left, " OR_A_FRESH_CUBE
+#define IF_OTHER "run the daemon that wrote it, " OR_A_FRESH_CUBE
+
 /* FNV-1a over all that stands before the checksum. It sees every change of a
- * single byte, also of a holder's or of a held node's star bits, where any
- * bytes make a record. */
+ * single byte, also of a condition or of a job's number, where other bytes make
+ * a record too. */
 static uint64_t checksum(const uint8_t *bytes)
 {
     uint64_t sum = 0xcbf29ce484222325;
@@ -82,17 +87,30 @@ static void refuse_other_record(const char *path, const uint8_t *bytes, size_t s
         return;
     fail(REFUSED_BY_NUMBER, path,
          "refused 1: the file holds a record of %u bytes, kind 0x%04x; "
-         "this daemon keeps records of %d bytes, kind 0x%04x; the file is left as it is",
+         "this daemon keeps records of %d bytes, kind 0x%04x; " IF_OTHER,
          field(bytes, 0), kind(bytes), CUBE_RECORD_SIZE, (unsigned)CUBE_RECORD_KIND);
 }
 
-/* Whether there is a file; if so its bytes are taken, all tests passed. That
- * the record is one is the library's to say: an empty frame gets 1 from it or
- * 3, and changes nothing. */
+/* Ends the program if the file isn't as a daemon leaves it: its size, its
+ * checksum, and then, which is the library's to judge, whether calls may begin
+ * at its record. */
+static void refuse_damaged(const char *path, const uint8_t *bytes, size_t size)
+{
+    if (size != STORED_SIZE)
+        fail(REFUSED_BY_NUMBER, path, "refused 1: the file hasn't %d bytes; " IF_DAMAGED, STORED_SIZE);
+    if (number(bytes + CHECKSUM_AT) != checksum(bytes))
+        fail(REFUSED_BY_NUMBER, path, "refused 1: the checksum is not that of the file; " IF_DAMAGED);
+    uint32_t refused = cube_load(bytes, CUBE_RECORD_SIZE);
+    if (refused == 18)
+        fail(REFUSED_BY_NUMBER, path, "refused 18: the nodes and star bits of a job don't form a subcube; " IF_DAMAGED);
+    if (refused != 0)
+        fail(REFUSED_BY_NUMBER, path, "refused %u: what the file holds is not a record; " IF_DAMAGED, (unsigned)refused);
+}
+
+/* Whether there is a file; if so its bytes are taken, all tests passed. */
 static bool load(struct store *store)
 {
     static uint8_t bytes[LONGEST_STORED + 1];
-    uint8_t reply[REPLY_SIZE];
     int file = open(store->file, O_RDONLY | O_CLOEXEC);
     if (file < 0 && errno == ENOENT)
         return false;
@@ -101,12 +119,7 @@ static bool load(struct store *store)
     size_t size = read_all(file, bytes, sizeof bytes, store->file);
     close(file);
     refuse_other_record(store->file, bytes, size);
-    if (size != STORED_SIZE)
-        fail(REFUSED_BY_NUMBER, store->file, "refused 1: the file hasn't %d bytes", STORED_SIZE);
-    if (cube_call(bytes, CUBE_RECORD_SIZE, bytes + CUBE_RECORD_SIZE, 0, reply, sizeof reply) == 1)
-        fail(REFUSED_BY_NUMBER, store->file, "refused 1: what the file holds is not a record");
-    if (number(bytes + CHECKSUM_AT) != checksum(bytes))
-        fail(REFUSED_BY_NUMBER, store->file, "refused 1: the checksum is not that of the file");
+    refuse_damaged(store->file, bytes, size);
     memcpy(store->bytes, bytes, STORED_SIZE);
     return true;
 }

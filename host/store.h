@@ -31,8 +31,8 @@ struct store {
 
 /* Opens the file of a machine, or where none is and n isn't null sets up a
  * fresh cube. Ends the program if the file is damaged, if its record is of
- * another size or kind, if another daemon has it, or if n isn't given just when
- * it is needed. */
+ * another size or kind or doesn't load, if another daemon has it, or if n isn't
+ * given just when it is needed. */
 void store_open(struct store *store, const char *file, const uint32_t *n);
 
 /* Makes one call, writes its reply and gives the reply's size. What the call

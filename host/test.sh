@@ -15,7 +15,7 @@ finish() {
     rm -rf "$disk" "$memory"
 }
 trap finish EXIT
-trap 'echo "host/test.sh: line $LINENO failed, seed $seed"' ERR
+trap 'echo "${BASH_SOURCE[0]}: line $LINENO failed, seed $seed"' ERR
 
 fail() {
     echo "host/test.sh: $*, seed $seed"
@@ -163,126 +163,6 @@ stops() {
     grep -qF "$2" "$folder/message" || fail "'$2' is not in: $(cat "$folder/message")"
 }
 
-# refused_file MESSAGE [N]: what stands in the record's file is refused by number 1 and stays.
-refused_file() {
-    cp "$record" "$folder/before"
-    stops 1 "cube-host: $record: refused 1: $1" "$record" "$socket" "${@:2}"
-    cmp "$record" "$folder/before"
-    [[ ! -e $socket ]] || fail "a refused file got a socket"
-}
-
-# Changes the lowest bit of a byte.
-flip() {
-    local byte
-    byte=$(od -An -tu1 -j "$1" -N 1 "$record")
-    printf %b "\\x$(printf %02x $((byte ^ 1)))" | dd of="$record" bs=1 seek="$1" conv=notrunc status=none
-}
-
-flipped_are_refused() {
-    local place
-    for place in "${@:2}"; do
-        flip "$place"
-        refused_file "$1"
-        flip "$place"
-    done
-}
-
-# first_log: a daemon's file after examples/first.log. n is 1, job 7 holds node 0, node 1 is faulty, three calls were accepted.
-first_log() {
-    new_machine "$memory"
-    start "$bin/cube-host" "$record" "$socket" 1
-    "${client[@]}" "$socket" < examples/first.log > "$folder/printed"
-    end_daemon
-}
-
-# Node 0 is held, so that only the checksum tells other star bits of it; node 1 is unheld.
-damaged_files() {
-    local length="the file hasn't $file_size bytes"
-    first_log
-    cp "$record" "$folder/right"
-    flipped_are_refused "what the file holds is not a record" 0 1 4 5 15 2065 3087 3090 3091 5135
-    flipped_are_refused "the checksum is not that of the file" 16 3088 3089 5136 5144 5156 5163
-    head -c $((file_size - 1)) "$folder/right" > "$record"
-    refused_file "$length"
-    echo >> "$record"
-    echo >> "$record"
-    refused_file "$length"
-    : > "$record"
-    refused_file "$length"
-}
-
-zeros() { head -c "$1" /dev/zero; }
-
-# FNV-1a, 64 bits, of standard input: its eight bytes, lowest first.
-checksum() {
-    local byte place sum=0xcbf29ce484222325
-    for byte in $(od -An -v -tu1); do sum=$(((sum ^ byte) * 0x100000001b3)); done
-    for place in 0 8 16 24 32 40 48 56; do bytes "$(printf %02x $((sum >> place & 255)))"; done
-}
-
-# write_file SIZE BYTES..: the file that examples/first.log leaves, by the table in README.md, with a record of this size that begins with these
-# four bytes; what it has behind the conditions is 0.
-write_file() {
-    {
-        bytes "${@:2}" 01 01 02 03 04 05 06 07 08 09 0a 00
-        bytes 07 00 && zeros 2046 # holders
-        bytes 01 02 && zeros 1022 # conditions
-        zeros $(($1 - 3088))
-        bytes 03 00 00 00 00 00 00 00 06 00 03 80 && zeros 8 # the greeting: three calls, and done 0
-    } > "$folder/summed"
-    cat "$folder/summed" <(checksum < "$folder/summed") > "$record"
-}
-
-# other_record SIZE KIND: the file holds a record of this size and kind, and is left, whether or not a fresh cube is asked for.
-other_record() {
-    local said="the file holds a record of $1 bytes, kind $2; this daemon keeps records of 5136 bytes, kind 0x0002; the file is left as it is"
-    refused_file "$said"
-    refused_file "$said" 1
-}
-
-# Files with records of other sizes and kinds: 3088 bytes, kind 0x0001, is the one without star bits. The first file is this daemon's own.
-other_records() {
-    first_log
-    cp "$record" "$folder/right"
-    write_file "$record_size" 10 14 02 00
-    cmp "$record" "$folder/right"
-    write_file 3088 10 0c 01 00
-    other_record 3088 0x0001
-    cp "$record" "$folder/old"
-    head -c 3088 "$folder/old" > "$record" # the record alone
-    other_record 3088 0x0001
-    write_file "$record_size" 10 14 01 00
-    other_record 5136 0x0001
-    write_file 3088 10 0c 02 00
-    other_record 3088 0x0002
-    write_file 5138 12 14 03 00
-    other_record 5138 0x0003
-    write_file 65535 ff ff 34 12
-    other_record 65535 0x1234
-}
-
-# Files whose size is not that of the record that their first bytes say, with what stands behind it.
-no_records() {
-    local length="the file hasn't $file_size bytes"
-    first_log
-    cp "$record" "$folder/right"
-    write_file "$record_size" 10 0c 01 00
-    refused_file "what the file holds is not a record"
-    write_file 3088 10 14 02 00
-    refused_file "$length"
-    write_file 3088 10 0c 01 00
-    cp "$record" "$folder/old"
-    head -c 3115 "$folder/old" > "$record"
-    refused_file "$length"
-    head -c "$record_size" "$folder/right" > "$record"
-    refused_file "$length"
-    cp "$folder/old" "$record"
-    echo >> "$record"
-    refused_file "$length"
-    zeros 28 > "$record"
-    refused_file "$length"
-}
-
 # Arguments, and what other programs have.
 refused_starts() {
     new_machine "$memory"
@@ -340,7 +220,7 @@ odd_clients() {
     wait "$daemon" || fail "the daemon ended with status $?"
 }
 
-# Daemon and client under valgrind.
+# Daemon and client under valgrind, and a second daemon on the file.
 watched() {
     local watch=(valgrind --quiet --error-exitcode=9 --leak-check=full)
     new_machine "$memory"
@@ -348,8 +228,13 @@ watched() {
     start "${watch[@]}" "$bin/cube-host" "$record" "$socket" "$dimension"
     timeout 120 "${watch[@]}" "$bin/cube-client" "$socket" < "$folder/log" > "$folder/printed"
     end_daemon
+    start "${watch[@]}" "$bin/cube-host" "$record" "$socket"
+    head -c 6 "$folder/log" | "${client[@]}" "$socket" > "$folder/first"
+    end_daemon
     same_as_reference
 }
+
+source host/test/files.sh
 
 host/build
 cargo build --offline --release --quiet --manifest-path reference/Cargo.toml
@@ -363,9 +248,13 @@ growths
 damaged_files
 other_records
 no_records
+no_subcubes
+not_records
+restarts
+written_by_hand
 refused_starts
 full_disk
 refused_call
 odd_clients
 if command -v valgrind > /dev/null; then watched 15 400; else echo "host: no valgrind here"; fi
-echo "host: growths, damaged files, records of other sizes and kinds, refused starts, a full disk and odd clients as expected"
+echo "host: growths, damaged files, other records, records that don't load, restarts, refused starts, a full disk and odd clients as expected"
