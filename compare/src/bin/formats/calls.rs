@@ -146,6 +146,12 @@ pub fn session_record(guide: &Guide, calls: usize) -> Result<Vec<u8>, String> {
     last.map(|done| done.record.clone()).ok_or(format!("the session has no call {calls}"))
 }
 
+/// The record before the session's first call and after each of its calls.
+pub fn session_records(guide: &Guide) -> Result<Vec<Vec<u8>>, String> {
+    let fresh = Cube::fresh(session_dimension(guide)?).record;
+    Ok([fresh].into_iter().chain(run(guide)?.into_iter().map(|done| done.record)).collect())
+}
+
 fn session_replies(guide: &Guide) -> Result<Vec<Vec<u8>>, String> {
     Ok(run(guide)?.into_iter().map(|done| done.reply).collect())
 }

@@ -25,4 +25,9 @@ impl Cube {
         let number = proved::call(&mut self.record, frame, &mut reply);
         (number as usize, reply)
     }
+
+    /// The nodes' holders, two bytes each.
+    pub fn holders(&self) -> impl Iterator<Item = &[u8]> {
+        self.record[HOLDERS..].chunks(2).take(NODES)
+    }
 }

@@ -7,6 +7,7 @@
 mod calls;
 mod cube;
 mod formula;
+mod loading;
 mod log;
 mod numbers;
 mod records;
@@ -20,7 +21,7 @@ use section::{Guide, Outcome, Section};
 
 type Check = fn(&Guide, &Section) -> Outcome;
 
-const SECTIONS: [(&str, Check); 15] = [
+const SECTIONS: [(&str, Check); 17] = [
     ("Formats", records::little_endian),
     ("The record", records::layout),
     ("Example: a record after two calls", records::after_calls),
@@ -36,6 +37,8 @@ const SECTIONS: [(&str, Check); 15] = [
     ("A smallest call that meets each", numbers::smallest),
     ("'Tried' with 14", numbers::tried),
     ("Set-up", numbers::set_up),
+    ("Loading", loading::numbers),
+    ("Records that load, and others", loading::records),
 ];
 
 fn main() {

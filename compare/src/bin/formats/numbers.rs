@@ -4,16 +4,18 @@ use cube_proved as proved;
 
 use crate::cube::{Cube, BEFORE, HOLDERS, SIZE};
 use crate::formula;
+use crate::loading;
 use crate::section::{after, byte_strings, bytes, decimals, ensure, hex, number, same, Outcome};
 use crate::section::{Guide, Row, Section};
 
 const SMALLEST: [&str; 4] = ["number", "record", "frame", "reply buffer afterwards"];
 
 /// The numbers in the order of their checks.
-const ORDER: [usize; 15] = [1, 2, 3, 4, 5, 6, 7, 8, 9, 10, 11, 17, 12, 13, 14];
+const ORDER: [usize; 16] = [1, 18, 2, 3, 4, 5, 6, 7, 8, 9, 10, 11, 17, 12, 13, 14];
 
-/// The table has the numbers in order, and each is met by a row of the smallest
-/// calls, whose reply is as the table says; these leave the whole record.
+/// The table has the numbers in order, and each that a call can meet is met by
+/// a row of the smallest calls, whose reply is as the table says; these leave the
+/// whole record. One that loading alone meets is shown there.
 pub fn in_order(guide: &Guide, section: &Section) -> Outcome {
     let rows = section.rows(&["number", "cause", "met by", "reply"])?;
     let smallest = guide.section("A smallest call that meets each")?.rows(&SMALLEST)?;
@@ -21,6 +23,11 @@ pub fn in_order(guide: &Guide, section: &Section) -> Outcome {
     ensure(left == SIZE, || format!("{left} bytes of the record are said to be left"))?;
     for ((line, cells), due) in rows.iter().zip(ORDER) {
         ensure(number(&cells[0])? == due, || format!("line {line}: not {due}"))?;
+        if cells[2] == "loading" {
+            let shown = cells[3] == "none" && loading::is_shown(guide, &cells[0])?;
+            ensure(shown, || format!("line {line}: no record that loads with it"))?;
+            continue;
+        }
         let met: Vec<&Row> = smallest.iter().filter(|(_, row)| row[0] == cells[0]).collect();
         ensure(!met.is_empty(), || format!("line {line}: no smallest call"))?;
         let writes = |row: &Row| !byte_strings(&row.1[3]).is_empty();

@@ -2,6 +2,7 @@
 
 use crate::calls;
 use crate::cube::{Cube, BEFORE, HOLDERS, NODES, SIZE};
+use crate::loading;
 use crate::section::{after, byte_strings, bytes, decimals, ensure, hex, number, same, Outcome};
 use crate::section::{fields_end, Guide, Row, Section};
 
@@ -75,14 +76,14 @@ pub fn after_calls(guide: &Guide, section: &Section) -> Outcome {
 }
 
 /// Puts a row's bytes at its offset.
-fn place(record: &mut [u8], cells: &[String]) -> Result<(), String> {
+pub fn place(record: &mut [u8], cells: &[String]) -> Result<(), String> {
     let (at, said) = (number(&cells[0])?, bytes(&cells[1])?);
     record[at..at + said.len()].copy_from_slice(&said);
     Ok(())
 }
 
-/// Each row, in a fresh record, makes every call return 1 and write nothing;
-/// so do buffers of the other sizes; what is said to be no fault passes.
+/// Each row, in a fresh record, makes every call and loading return 1 and write
+/// nothing; so do buffers of the other sizes; what is said to be no fault passes.
 pub fn no_record(guide: &Guide, section: &Section) -> Outcome {
     let n = after(section.line_with("a fresh record of")?, "n = ")?;
     let frames = calls::examples(guide)?;
@@ -105,7 +106,8 @@ pub fn no_record(guide: &Guide, section: &Section) -> Outcome {
 }
 
 /// A fresh record passes, so does one with the holder of this sentence, and one
-/// with all changes that are no fault.
+/// with all changes that are no fault. The last loads with the number that is
+/// said, the others with 0.
 fn no_fault(section: &Section, n: usize, right: &str, frames: &[Vec<u8>]) -> Outcome {
     let fresh = Cube::fresh(n);
     let [mut held, mut changed] = [fresh.clone(), fresh.clone()];
@@ -116,11 +118,16 @@ fn no_fault(section: &Section, n: usize, right: &str, frames: &[Vec<u8>]) -> Out
     for (_, cells) in section.rows(&["offset", "bytes", "what is no fault"])? {
         place(&mut changed.record, cells)?;
     }
-    Ok(passes(&fresh, frames)? + passes(&held, frames)? + passes(&changed, frames)?)
+    let due = after(section.line_with("though loading it returns")?, "loading it returns ")?;
+    for (cube, due) in [(&fresh, 0), (&held, 0), (&changed, due)] {
+        let got = loading::load(&cube.record)?;
+        ensure(got == due, || format!("what is no fault loads with {got}, not {due}"))?;
+    }
+    Ok(3 + passes(&fresh, frames)? + passes(&held, frames)? + passes(&changed, frames)?)
 }
 
 /// No call on it is refused 1.
-fn passes(cube: &Cube, frames: &[Vec<u8>]) -> Outcome {
+pub fn passes(cube: &Cube, frames: &[Vec<u8>]) -> Outcome {
     for frame in frames {
         let (number, _) = cube.clone().call(frame, 12);
         ensure(number != 1, || format!("{frame:02x?} on a right record returned 1"))?;
@@ -128,7 +135,8 @@ fn passes(cube: &Cube, frames: &[Vec<u8>]) -> Outcome {
     Ok(frames.len())
 }
 
-fn refused(cube: &Cube, frames: &[Vec<u8>]) -> Outcome {
+/// Every call on it, and loading it, returns 1 and writes nothing.
+pub fn refused(cube: &Cube, frames: &[Vec<u8>]) -> Outcome {
     for frame in frames {
         let mut after = cube.clone();
         let (number, reply) = after.call(frame, 12);
@@ -136,5 +144,7 @@ fn refused(cube: &Cube, frames: &[Vec<u8>]) -> Outcome {
         same("record", &after.record, &cube.record)?;
         same("reply", &reply, &[BEFORE; 12])?;
     }
-    Ok(frames.len())
+    let number = loading::load(&cube.record)?;
+    ensure(number == 1, || format!("it loads with {number}"))?;
+    Ok(frames.len() + 1)
 }
