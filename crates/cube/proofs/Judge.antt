@@ -57,11 +57,19 @@ module _ (n : ℕ) (h : History) (e : Exchange) (r : List ℕ)
     replied = A .replied;
     left = left r (e .frame) (e .buffer);
     refusal = λ q f. A .replied ∙ ap (λ (u : Reply). replies u (e .buffer)) (J .refused-by-first q f);
+    all-tried = J .all-tried;
     none-free = λ k f. (
       λ z. J .none-free k f .0 (J .refused-by-first 14 (first 14 (λ q. omega arith) z)),
       λ g. A .returned ∙ ap numberOf (J .none-free k f .1 g),
     );
     gets-first = λ k f g.
         let G = J .gets-first k f g in
-        record { member = G .member; place = G .place; first = G .first; replied = A .replied ∙ ap (λ (u : Reply). replies u (e .buffer)) (G .told) };
+        record {
+          member = G .member;
+          place = G .place;
+          in-family = G .in-family;
+          free = G .free;
+          first = G .first;
+          replied = A .replied ∙ ap (λ (u : Reply). replies u (e .buffer)) (G .told);
+        };
   }

@@ -5,29 +5,32 @@ use mathlib.Core.Logic.{_↔_, _≢_}
 use mathlib.Core.Bool.{true}
 use mathlib.Core.List.{List}
 use lib.ListN.{length, getD}
-use Rattle.hypercube.specs.Lists.{In, FirstWith}
+use Rattle.hypercube.specs.Lists.{In}
 use Rattle.hypercube.specs.Labels.{node}
+use Rattle.hypercube.specs.Choice.{isBestFit}
 use Rattle.hypercube.specs.declared.Subcube.{Subcube}
 use Rattle.hypercube.specs.Words.{word}
 use Rattle.hypercube.specs.Replies.{granted, numberOf, replies}
-use Rattle.history.specs.Calls.{kind, job, ask, asking}
+use Rattle.history.specs.Calls.{kind, job, strategy, ask, asking}
 use Rattle.history.specs.Account.{History, AllFree}
 use Rattle.history.specs.Causes.{First, NoneMet, NoMemberFree, asked, earlier, causes}
 use Rattle.hypercube.specs.declared.Reply.the-variants.{Refused}
 use Rattle.history.specs.Verdicts.{tried, verdict}
 use Rattle.history.specs.Held.{Held, nodes}
-use Rattle.history.specs.Claims.{HeldRight}
+use Rattle.history.specs.Claims.{FirstSuch, AllTried, HeldRight}
 use Rattle.record.specs.Layout.{mapAt, holdersAt, conditionsAt, starsAt, recordSize, validRecord}
 use Rattle.record.specs.Says.{says, formedRecord}
 use Rattle.cube.specs.Called.{Program}
 use Rattle.cube.specs.Start.{Start, MayBegin}
 use Rattle.cube.specs.Run.{Exchange, Exchanges, _next_, fed, feed, recordAfter, number, reply, heldAt, historyFrom}
 
--- a request or a growth is replied 'granted' with its job and the lowest node, star bits and place of the first free member of its family
+-- a request or a growth is replied 'granted' with its job, the lowest node and star bits of the first free member of its family, and what was tried
 pub record Gets (n : ℕ) (h : History) (e : Exchange) (p′ : List ℕ) : Type 0 where
   pub member : Subcube
   pub place : ℕ
-  pub first : FirstWith (AllFree h (ask (fed e))) (asked n (ask (fed e))) member place
+  pub in-family : In member (asked n (ask (fed e)))
+  pub free : AllFree h (ask (fed e)) member
+  pub first : FirstSuch (isBestFit (strategy (fed e))) n h (ask (fed e)) member place
   pub replied : p′
       ≡ replies (granted (job (fed e)) (node (h .directions) (member .low .0)) (node (h .directions) (member .stars)) place) (e .buffer)
 
@@ -40,8 +43,9 @@ pub record Judged (n : ℕ) (h : History) (e : Exchange) (m : ℕ) (p′ r r′ 
   pub returned : m ≡ numberOf (verdict n h (fed e))
   pub replied : p′ ≡ replies (verdict n h (fed e)) (e .buffer)
   pub left : m ≢ 0 → r′ ≡ r
-  -- a refusal's reply has its number and what was tried
-  pub refusal : (q : ℕ) → First (causes n) h (fed e) q → p′ ≡ replies (Refused q (tried n (fed e) q)) (e .buffer)
+  -- a refusal's reply has its number and what was tried, at 14 the family's whole count or the number of maximal free blocks
+  pub refusal : (q : ℕ) → First (causes n) h (fed e) q → p′ ≡ replies (Refused q (tried n h (fed e) q)) (e .buffer)
+  pub all-tried : AllTried (isBestFit (strategy (fed e))) n h (ask (fed e)) (tried n h (fed e) 14)
   -- a request or a growth that meets no earlier cause: 'none free' exactly when no member of its family is all good and unheld by others,
   -- otherwise the first such
   pub none-free : In (kind (fed e)) asking → NoneMet (earlier n) h (fed e) → (m ≡ 14) ↔ NoMemberFree n h (ask (fed e))

@@ -7,14 +7,13 @@ use native.Mathlib.Nat.{lt-of-lt-of-le}
 use lib.Dec.{eqb}
 use lib.Pow.{pow-mono}
 use Rattle.hypercube.specs.Labels.{node}
-use Rattle.hypercube.specs.Subcubes.{isFree, subcube, IsSubcube}
-use Rattle.hypercube.specs.Families.{family, choice}
+use Rattle.hypercube.specs.Subcubes.{subcube, IsSubcube}
+use Rattle.hypercube.specs.Choice.{choice}
 use Rattle.hypercube.specs.declared.Subcube.{Subcube}
 use Rattle.hypercube.specs.declared.Walk.{Walk}
 use Rattle.hypercube.specs.declared.Walk.the-variants.{Found}
-use Rattle.hypercube.proofs.Families.{family-subcubes, choice-same}
+use Rattle.hypercube.proofs.Families.{family-subcubes, choice-same, choice-free}
 use Rattle.hypercube.proofs.Moved.{moved-subcube}
-use Rattle.hypercube.proofs.Search.{found-first, first-in}
 use Rattle.labels.specs.Directions.{Directions}
 use Rattle.labels.specs.Flags.{EmptyFrom, flag, byNode, byLabel}
 use Rattle.labels.proofs.Directions.{directions}
@@ -66,8 +65,7 @@ module _ (s : State) (v : Valid s) (j k f : ℕ) (h : k ≤ s .n) (c : Subcube) 
   member : IsSubcube (s .n) k (subcube (node (s .map) (c .low .0)) (node (s .map) (c .stars)))
   member =
       moved-subcube (s .n) (s .map) (v .small) (v .permutes) k c
-      (family-subcubes f (s .n) k h c
-      (first-in (found-first (isFree (freeLabel s j)) (family f (s .n) k) c t e)))
+      (family-subcubes f (s .n) k h c (choice-free f (s .n) k (freeLabel s j) (v .small) c t e .0))
 
   below : (x : ℕ) → x < 2 ^ s .n → x < 1024
   below x l = lt-of-lt-of-le l (pow-mono {i = s .n} {j = 10} (v .small))

@@ -5,6 +5,8 @@ use state::refused;
 ghost use mathlib.Core.Path.{_≡_};
 ghost use mathlib.Core.Bool.{true};
 ghost use Prim.Native.Nat.{_≤_};
+ghost use Rattle.hypercube.specs.Lists.{among};
+ghost use Rattle.history.specs.Calls.{strategies};
 ghost use Rattle.state.specs.declared.Call.the-variants.{Request, Release, Grow};
 ghost use Rattle.state.specs.States.{lost};
 ghost use Rattle.state.specs.Checks.{fieldCause};
@@ -14,7 +16,8 @@ ghost use Rattle.record.specs.Layout.{encode, decode, validRecord};
 ghost use Rattle.steps.specs.Carried.{Carried};
 ghost use Rattle.grants.specs.Grants.{Holding, Grants};
 
-// A walk's 'tried': the place of the member found, or the family's whole count, which the refusal has.
+// A walk's 'tried': the place of the member found, or the family's whole count, which the refusal has; under best fit the number of maximal free
+// blocks.
 fn tried_in(walk: Walk) -> u16
     ensures { λ r. ⌜ r ≡ triedIn walk ⌝ }
 {
@@ -74,19 +77,27 @@ fn grant_on(rec: &mut [u8], job: u16, held: u16, k: u8, strategy: u8) -> Reply
     }
 }
 
-// The first cause that the fields of a request or a growth meet: 6 for job 0, 7 for k above n, 9 for no strategy; or 0.
+// Whether a request or a growth takes this strategy.
+fn is_offered(strategy: u8) -> bool
+    ensures { λ r. ⌜ r ≡ among strategy strategies ⌝ }
+{
+    strategy <= 4
+}
+
+// The first cause that the fields of a request or a growth meet: 6 for job 0, 7 for k above n, 9 for a strategy that it doesn't take; or 0.
 fn field_cause(rec: &[u8], job: u16, k: u8, strategy: u8) -> u16
     requires { ⌜ validRecord (now rec) ≡ true ⌝ }
-    ensures { λ r. ⌜ r ≡ fieldCause (decode (now (rec .entry))) job k strategy ⌝ }
+    ensures { λ r. ⌜ r ≡ fieldCause (decode (now (rec .entry))) strategies job k strategy ⌝ }
 {
     let n = record::dimension(rec);
+    let offered = is_offered(strategy);
     if job == 0 {
         return 6;
     }
     if n < k {
         return 7;
     }
-    if 3 < strategy {
+    if !offered {
         return 9;
     }
     0

@@ -1,8 +1,9 @@
--- Tests of the numbers below N, and the facts that they stand for. Assumes nothing.
-use Prim.Native.Nat.{ℕ, _<_}
-use mathlib.Core.Path.{_≡_}
-use mathlib.Core.Bool.{Bool, true}
-use Rattle.hypercube.specs.Lists.{Some, allBelow, anyBelow}
+-- Tests of the numbers below N: the facts that they stand for, and how many pass. Assumes nothing.
+use Prim.Native.Nat.{ℕ, zero, suc, _+_, _<_}
+use mathlib.Core.Path.{_≡_, refl, ap₂}
+use mathlib.Core.Bool.{Bool, true, cond}
+use native.Mathlib.Omega.{arith}
+use Rattle.hypercube.specs.Lists.{Some, allBelow, anyBelow, countBelow}
 use Rattle.hypercube.specs.Conditions.{so, means-some, means-each-below}
 use Rattle.hypercube.specs.Tests.{Means, means-iff}
 
@@ -17,3 +18,9 @@ pub means-each : (test : ℕ → Bool) (P : ℕ → Type 0) (N : ℕ) → ((x : 
     → Means (allBelow test N) ((x : ℕ) → x < N → P x)
 means-each test P N m =
     means-iff (means-all test N) (λ h x l. m x l .holds (h x l), λ h x l. m x l .shows (h x l))
+
+-- two tests that agree below N are passed by as many
+pub count-same : (N : ℕ) (p q : ℕ → Bool) → ((x : ℕ) → x < N → p x ≡ q x) → countBelow N p ≡ countBelow N q
+unfolding countBelow
+count-same zero p q h = refl
+count-same (suc N) p q h = ap₂ (λ (b : Bool) (k : ℕ). cond b 1 0 + k) (h N (omega arith)) (count-same N p q (λ x l. h x (omega arith)))

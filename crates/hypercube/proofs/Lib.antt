@@ -23,4 +23,14 @@ pub mod GrayLabels
 pub mod Counts
 pub mod Repeats
 pub mod Search
+pub mod Levels
+pub mod Blocks
+pub mod Ascending
+pub mod Maximal
+pub mod Covered
+pub mod MaximalCount
+pub mod Smallest
+pub mod ByLevels
+pub mod BestFit
+pub mod FreeAs
 pub mod Families

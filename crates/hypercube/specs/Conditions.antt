@@ -7,7 +7,7 @@ use mathlib.Core.List.{List, [], _∷_}
 use native.Mathlib.Omega.{arith}
 use native.Mathlib.Decide.{ℕ-discrete}
 use lib.Dec.{eqb, ltb, leb}
-use Rattle.hypercube.specs.Lists.{In, Some, allBelow, anyBelow}
+use Rattle.hypercube.specs.Lists.{In, Some, among, allBelow, anyBelow}
 use Rattle.hypercube.specs.Tests.{Means, means-true, means-iff, means-eq, means-lt, means-le, means-not, means-and, means-or}
 
 pub record Condition : Type 1 where
@@ -95,7 +95,16 @@ means-every {A} (x ∷ xs) P = means-iff (means-and (P x .means) (means-every xs
 abbrev pub every-of : {A : Type 0} → List A → (A → Condition) → Condition
 every-of {A} xs P = record { Met = (x : A) → In x xs → P x .Met; test = allOf (λ x. P x .test) xs; means = means-every xs P }
 
--- ---- that x is one of a list, where the entries are told apart by d
+-- ---- that x is one of a list of numbers, and of a list whose entries are told apart by d
+
+pub means-among : (x : ℕ) (xs : List ℕ) → Means (among x xs) (In x xs)
+unfolding among
+means-among x [] = record { holds = λ e. false≢true e; shows = λ i. absurd i }
+means-among x (y ∷ ys) = means-or (means-eq x y) (means-among x ys)
+
+infix 50 _is-one-of_
+abbrev pub _is-one-of_ : ℕ → List ℕ → Condition
+_is-one-of_ x xs = record { Met = In x xs; test = among x xs; means = means-among x xs }
 
 means-dec : {P : Type 0} (d : Dec P) → Means (ite d true false) P
 means-dec (yes p) = record { holds = λ e. p; shows = λ q. refl }

@@ -1,4 +1,5 @@
--- The published definitions, in document 01's order: labels, subcubes, the families, the first free member, replies; and document 02's, (g).
+-- The published definitions, in document 01's order: labels, subcubes, the families, the first free member, document 02's best fit, (a), what each
+-- strategy chooses, replies; and document 02's, (g).
 -- Before them what a table of causes and a call's checks are made of; after them what a loop has filled.
 pub mod Lists
 pub mod Tests
@@ -9,6 +10,10 @@ pub mod Labels
 pub mod Subcubes
 pub mod Gray
 pub mod Families
+pub mod BestFit
+pub mod Maximal
+pub mod Choice
+pub mod Levels
 pub mod Words
 pub mod Replies
 pub mod Formed

@@ -12,7 +12,7 @@ use Rattle.hypercube.specs.Subcubes.{vertices}
 use Rattle.hypercube.proofs.Bits.{lt-or, bit-suc, bit-high, bit-cases}
 use Rattle.hypercube.specs.Tests.{means-eq, same-test}
 use Rattle.hypercube.proofs.Vertices.{Fixed, in-vertices, vertices-in}
-use Rattle.history.proofs.Counting.{means-among}
+use Rattle.hypercube.specs.Conditions.{means-among}
 
 -- y's bits other than the stars are b's
 abbrev Agrees : ℕ → ℕ → ℕ → ℕ → Type 0

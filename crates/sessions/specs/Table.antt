@@ -52,7 +52,7 @@ labelled d ls = record { told = Done d ∷ []; labels = ls }
 abbrev pub five : ℕ → Session
 five s = requests 4 (goods (from 0 16)) (request 1 0 s ∷ request 2 3 s ∷ request 3 2 s ∷ request 4 1 s ∷ request 5 0 s ∷ [])
 
--- row 9: n 0, good, k 0
+-- row 9: n 0, good, "any strategy", k 0
 abbrev pub single : ℕ → Session
 single s = requests 0 (goods (0 ∷ [])) (request 1 0 s ∷ [])
 
@@ -78,7 +78,7 @@ table =
     (told (granted 1 0 1 1 ∷ Refused 14 2 ∷ []) ∷ [])
     ∷ row 7 (relabels 6 (21 ∷ 29 ∷ 5 ∷ []) ∷ []) (labelled 2 (22 ∷ 23 ∷ 20 ∷ []) ∷ [])
     ∷ row 8 (relabels 3 (0 ∷ 4 ∷ []) ∷ relabels 3 (0 ∷ 7 ∷ []) ∷ []) (labelled 1 (0 ∷ 1 ∷ []) ∷ labelled 3 (0 ∷ 7 ∷ []) ∷ [])
-    ∷ row 9 (map single (from 0 4)) (map (λ s. told (granted 1 0 0 1 ∷ [])) (from 0 4))
+    ∷ row 9 (map single (from 0 5)) (map (λ s. told (granted 1 0 0 1 ∷ [])) (from 0 5))
     ∷ row 10 (requests 2 (goods (0 ∷ 1 ∷ 2 ∷ [])) (request 1 2 0 ∷ []) ∷ []) (told (Refused 14 1 ∷ []) ∷ [])
     ∷ []
 

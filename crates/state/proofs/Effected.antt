@@ -12,18 +12,16 @@ use lib.ListN.{length}
 use lib.Pow.{pow-mono}
 use Rattle.hypercube.specs.Replies.{numberOf}
 use Rattle.hypercube.specs.Labels.{node}
-use Rattle.hypercube.specs.Subcubes.{isFree}
 use Rattle.hypercube.specs.declared.Walk.{Walk}
 use Rattle.hypercube.specs.declared.Walk.the-variants.{Found, NoneFree}
 use Rattle.hypercube.specs.declared.Reply.{Reply}
 use Rattle.hypercube.specs.declared.Reply.the-variants.{Refused}
-use Rattle.hypercube.proofs.Search.{first-in, none-found}
 use Rattle.history.specs.Calls.{Call, ask, kind, nodeField, job, dimension, strategy, Effect, sets, relabels, grants, releases, effect}
-use Rattle.history.specs.Account.{History, freeLabel, memberNodes, withCondition, takeOver}
-use Rattle.history.specs.Causes.{asked, no-member-free}
+use Rattle.history.specs.Account.{History, memberNodes, withCondition, takeOver}
+use Rattle.history.specs.Causes.{no-member-free}
 use Rattle.history.specs.Verdicts.{chosen, give, grant, accept, tell, stepBy, verdictBy}
 use Rattle.history.specs.Claims.{Accepted}
-use Rattle.history.proofs.Chosen.{chosen-first, noneIn, none-tested}
+use Rattle.history.proofs.Chosen.{chosen-free, chosen-none, noneIn, none-tested}
 use Rattle.history.proofs.Granted.{toldNodes, granted-nodes}
 use Rattle.state.specs.declared.State.{State}
 use Rattle.state.specs.declared.Step.{Step}
@@ -72,7 +70,7 @@ module _ (s : State) (z : Sized s) (w : Valid s) (c : Call) where
       → Does s c (grantStep s (job c) a) (cond (noneIn a) (some 14) none)
   unfolding tell accept
   granted-or-none e fits (Found m t) q =
-      let g = granted-nodes (s .n) (view s) (ask c) m (w .small) (w .permutes) fits (first-in (chosen-first (s .n) (view s) (ask c) m t q)) in
+      let g = granted-nodes (s .n) (view s) (ask c) m (w .small) (w .permutes) fits (chosen-free (s .n) (view s) (ask c) (w .small) m t q .0) in
       let stars : ℕ = node (s .map) (m .stars) in
       let given = view-taken (states.lost s (job c)) (lost-sized z (job c)) (toldNodes (view s) m) (memberNodes (view s) m) (job c) stars
       (λ y. Iff·symm (g .same y)) (λ y i. lt-of-lt-of-le (g .below y i) (pow-mono (w .small))) in
@@ -80,7 +78,7 @@ module _ (s : State) (z : Sized s) (w : Valid s) (c : Call) where
       accepts grants e tt (ap (grant (s .n) (view s) (job c)) (sym q))
       (given ∙ lost ∙ ap (give (s .n) (view s) (job c)) (sym q))
   granted-or-none e fits (NoneFree t) q = record {
-    told = ap (Refused 14) (none-found (isFree (freeLabel (view s) (ask c))) (asked (s .n) (ask c)) t q .0);
+    told = ap (Refused 14) (chosen-none (s .n) (view s) (ask c) (w .small) fits t q .0);
     stands = refl;
     ends = inr (omega arith);
   }
@@ -90,5 +88,5 @@ module _ (s : State) (z : Sized s) (w : Valid s) (c : Call) where
       → Does s c (effected s (Grants (job c) (dimension c) (strategy c))) (cond (no-member-free (s .n) (view s) (ask c) .test) (some 14) none)
   does-grants e l =
       let fits = ltb-false (s .n) (dimension c) l in
-      rw (none-tested (s .n) (view s) (ask c) (chosen (s .n) (view s) (ask c)) refl)
+      rw (none-tested (s .n) (view s) (ask c) (w .small) fits (chosen (s .n) (view s) (ask c)) refl)
       (granted-or-none e fits (chosen (s .n) (view s) (ask c)) refl)

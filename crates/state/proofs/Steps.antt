@@ -65,25 +65,25 @@ module _ (s : State) where
 
 -- ---- m is the first cause that the fields of a request or a growth meet
 
-module _ (s : State) (j k f : ℕ) {m : ℕ} (e : m ≡ fieldCause s j k f) where
-  pub fields-refused : (ms : List Check) (t : Step) → m ≢ 0 → refuse s m ≡ guarded s (fieldChecks s j k f ++ ms) t
+module _ (s : State) (fs : List ℕ) (j k f : ℕ) {m : ℕ} (e : m ≡ fieldCause s fs j k f) where
+  pub fields-refused : (ms : List Check) (t : Step) → m ≢ 0 → refuse s m ≡ guarded s (fieldChecks s fs j k f ++ ms) t
   unfolding fieldCause
-  fields-refused ms t = stopped-by s (fieldChecks s j k f) ms t e
+  fields-refused ms t = stopped-by s (fieldChecks s fs j k f) ms t e
 
   module _ (z : m ≡ 0) where
-    clear : Clear (fieldChecks s j k f)
+    clear : Clear (fieldChecks s fs j k f)
     unfolding fieldCause
-    clear = clear-by (fieldChecks s j k f) refl (sym e ∙ z)
+    clear = clear-by (fieldChecks s fs j k f) refl (sym e ∙ z)
 
     pub fields-fit : (j ≢ 0) × (k ≤ s .n)
     fields-fit = (eqb-false j 0 (clear .0), ltb-false (s .n) k (clear .1 .0))
 
     -- then the first that is met of the checks after them is the refusal, and where none is, the call does what it does
-    pub fields-stopped : (ms : List Check) (t : Step) (i : ℕ) → StopsAt ms i → refuse s (numberAt ms i) ≡ guarded s (fieldChecks s j k f ++ ms) t
-    fields-stopped ms t i h = stopped s ms t i h ∙ after s (fieldChecks s j k f) ms t clear
+    pub fields-stopped : (ms : List Check) (t : Step) (i : ℕ) → StopsAt ms i → refuse s (numberAt ms i) ≡ guarded s (fieldChecks s fs j k f ++ ms) t
+    fields-stopped ms t i h = stopped s ms t i h ∙ after s (fieldChecks s fs j k f) ms t clear
 
-    pub fields-run : (ms : List Check) (t : Step) → Clear ms → {u : Step} → u ≡ t → u ≡ guarded s (fieldChecks s j k f ++ ms) t
-    fields-run ms t c h = runs s ms t c h ∙ after s (fieldChecks s j k f) ms t clear
+    pub fields-run : (ms : List Check) (t : Step) → Clear ms → {u : Step} → u ≡ t → u ≡ guarded s (fieldChecks s fs j k f ++ ms) t
+    fields-run ms t c h = runs s ms t c h ∙ after s (fieldChecks s fs j k f) ms t clear
 
 -- ---- a job j, and k, the number of nodes that it is found to hold below N
 

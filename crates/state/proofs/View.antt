@@ -14,7 +14,7 @@ use Rattle.hypercube.proofs.Bits.{lt-or}
 use Rattle.hypercube.proofs.Lists.{length-of, getD-each}
 use Rattle.hypercube.specs.Tests.{cases, either-way, refutes, same-test}
 use Rattle.history.specs.Account.{History, put, putAll, wipe, withHeld, lose, takeOver}
-use Rattle.history.proofs.Counting.{means-among}
+use Rattle.hypercube.specs.Conditions.{means-among}
 use Rattle.state.specs.declared.State.{State}
 use Rattle.state.specs.States.{given, cleared, lost, taken}
 use Rattle.state.specs.View.{entry, view}

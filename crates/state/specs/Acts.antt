@@ -9,7 +9,7 @@ use lib.ListN.{getD}
 use Rattle.hypercube.specs.Words.{word}
 use Rattle.hypercube.specs.Checks.{Check, _check_}
 use Rattle.hypercube.specs.declared.Reply.the-variants.{Refused}
-use Rattle.history.specs.Calls.{Kind, good, fault, repaired, relabel, request, release, grow, other}
+use Rattle.history.specs.Calls.{Kind, good, fault, repaired, relabel, request, release, grow, other, offered}
 use Rattle.state.specs.declared.State.{State}
 use Rattle.state.specs.declared.Call.{Call}
 use Rattle.state.specs.declared.Call.the-variants.{Good, Fault, Repaired, Relabel, Request, Release, Grow}
@@ -35,9 +35,9 @@ checksOf s (Good x) = reportChecks s (x .0) 1
 checksOf s (Fault x) = reportChecks s (x .0) 2
 checksOf s (Repaired x) = reportChecks s (x .0) 0
 checksOf s Relabel = 13 check anyHeld s ∷ []
-checksOf s (Request j k f) = fieldChecks s j k f ++ 10 check holds s j ∷ []
+checksOf s (Request j k f) = fieldChecks s (offered request) j k f ++ 10 check holds s j ∷ []
 checksOf s (Release j) = 6 check eqb j 0 ∷ 11 check not (holds s j) ∷ []
-checksOf s (Grow j k f) = fieldChecks s j k f ++ 11 check not (holds s j) ∷ 17 check leb (2 ^ k) (heldBy s j) ∷ []
+checksOf s (Grow j k f) = fieldChecks s (offered grow) j k f ++ 11 check not (holds s j) ∷ 17 check leb (2 ^ k) (heldBy s j) ∷ []
 
 -- what it does that none of them stops
 abbrev pub effectOf : Call → Effect

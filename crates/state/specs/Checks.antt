@@ -4,7 +4,7 @@ use mathlib.Core.Bool.{Bool, false, not, cond}
 use mathlib.Core.List.{List, [], _∷_}
 use lib.Dec.{eqb, ltb, leb}
 use lib.ListN.{getD}
-use Rattle.hypercube.specs.Lists.{anyBelow, countBelow}
+use Rattle.hypercube.specs.Lists.{among, anyBelow, countBelow}
 use Rattle.hypercube.specs.Checks.{Check, _check_, firstNumber}
 use Rattle.state.specs.declared.State.{State}
 
@@ -28,9 +28,10 @@ barred v c = cond (eqb v 2) false (cond (eqb v 1) (eqb c 2) (not (eqb c 2)))
 abbrev pub reportChecks : State → ℕ → ℕ → List Check
 reportChecks s x v = 8 check leb (nodeCount s) x ∷ 12 check barred v (getD (s .conditions) x 0) ∷ []
 
--- of the fields of a request or a growth: "job 0", "k above n", "strategy above 3"; and the first of these causes that they meet, or 0
-abbrev pub fieldChecks : State → ℕ → ℕ → ℕ → List Check
-fieldChecks s j k f = 6 check eqb j 0 ∷ 7 check ltb (s .n) k ∷ 9 check ltb 3 f ∷ []
+-- of the fields of a request or a growth that takes the strategies fs: "job 0", "k above n", another strategy; and the first of these causes that
+-- they meet, or 0
+abbrev pub fieldChecks : State → List ℕ → ℕ → ℕ → ℕ → List Check
+fieldChecks s fs j k f = 6 check eqb j 0 ∷ 7 check ltb (s .n) k ∷ 9 check not (among f fs) ∷ []
 
-unfoldable pub fieldCause : State → ℕ → ℕ → ℕ → ℕ
-fieldCause s j k f = firstNumber (fieldChecks s j k f)
+unfoldable pub fieldCause : State → List ℕ → ℕ → ℕ → ℕ → ℕ
+fieldCause s fs j k f = firstNumber (fieldChecks s fs j k f)

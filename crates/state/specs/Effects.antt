@@ -6,7 +6,7 @@ use lib.ListN.{getD}
 use Rattle.hypercube.specs.Bits.{width}
 use Rattle.hypercube.specs.Labels.{node, differing, size, relabelled}
 use Rattle.hypercube.specs.Subcubes.{vertices}
-use Rattle.hypercube.specs.Families.{choice}
+use Rattle.hypercube.specs.Choice.{choice}
 use Rattle.hypercube.specs.declared.Walk.{Walk}
 use Rattle.labels.specs.Relabelling.{notGood}
 use Rattle.state.specs.declared.State.{State}

@@ -1,4 +1,4 @@
-// The walks over the four families, on labels: the first free member with its place, or the family's whole count.
+// The walks over the families, on labels: the first free member with its place, or the family's whole count; and the choice by strategy.
 // Document 01, "Families and their order". Which labels are free is told by flags, 1 where a label is.
 use hypercube::Label;
 use hypercube::Subcube;
@@ -13,7 +13,8 @@ ghost use Rattle.hypercube.specs.Lists.{over};
 ghost use Rattle.hypercube.specs.Bits.{bit};
 ghost use Rattle.hypercube.specs.Gray.{G};
 ghost use Rattle.hypercube.specs.Subcubes.{isFree};
-ghost use Rattle.hypercube.specs.Families.{buddyMember, buddy, grayMember, gray, treeMember, tree, further, more, extended, firstFree, choice};
+ghost use Rattle.hypercube.specs.Families.{buddyMember, buddy, grayMember, gray, treeMember, tree, further, more, extended, firstFree};
+ghost use Rattle.hypercube.specs.Choice.{choice};
 ghost use Rattle.runs.specs.Flagged.{flagged};
 ghost use Rattle.runs.specs.Levels.{Level};
 ghost use Rattle.planes.specs.Rows.{NoMember};
@@ -503,7 +504,7 @@ pub fn extended_walk(flags: &[u8; 1024], n: u16, k: u16) -> Walk
     more_walk(flags, n, k - 1, tried)
 }
 
-// What a strategy chooses. No strategy above 3 has a member.
+// What a strategy chooses. No strategy above 4 has a member.
 pub fn choose(flags: &[u8; 1024], strategy: u8, n: u16, k: u16) -> Walk
     requires { ⌜ (k ≤ n) × (n ≤ 10) ⌝ }
     ensures { λ r. ⌜ r ≡ choice strategy n k (flagged (now (flags .entry))) ⌝ }
@@ -513,6 +514,7 @@ pub fn choose(flags: &[u8; 1024], strategy: u8, n: u16, k: u16) -> Walk
         1 => gray_walk(flags, n, k),
         2 => tree_walk(flags, n, k),
         3 => extended_walk(flags, n, k),
+        4 => best_fit::best_walk(flags, n, k),
         _ => Walk::NoneFree(0),
     }
 }

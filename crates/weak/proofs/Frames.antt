@@ -10,6 +10,7 @@ use Rattle.hypercube.specs.Lists.{In, over, some-of, among, countBelow, anyBelo
 use Rattle.hypercube.specs.Labels.{node, size, assign}
 use Rattle.hypercube.specs.Subcubes.{vertices, freeAt}
 use Rattle.hypercube.specs.Families.{firstFree}
+use Rattle.hypercube.specs.BestFit.{maximalIn, smallest}
 use Rattle.hypercube.specs.Conditions.{allOf}
 use Rattle.hypercube.specs.Checks.{firstMet}
 use Rattle.hypercube.specs.Words.{word}
@@ -51,12 +52,22 @@ gives-back = exchange (6 ∷ 0 ∷ 0x02 ∷ 0x02 ∷ 1 ∷ 0 ∷ [])
 abbrev pub grows : Exchange
 grows = exchange (8 ∷ 0 ∷ 0x04 ∷ 0x02 ∷ 1 ∷ 0 ∷ 1 ∷ 0 ∷ [])
 
--- one node, or two, good
+-- job 1 asks for one node, and for two, by best fit
+abbrev pub fits : Exchange
+fits = exchange (8 ∷ 0 ∷ 0x01 ∷ 0x02 ∷ 1 ∷ 0 ∷ 0 ∷ 4 ∷ [])
+
+abbrev pub fits-pair : Exchange
+fits-pair = exchange (8 ∷ 0 ∷ 0x01 ∷ 0x02 ∷ 1 ∷ 0 ∷ 1 ∷ 4 ∷ [])
+
+-- one node, or two, or three, good
 abbrev pub one : Exchanges
 one = begin next good 0
 
 abbrev pub two : Exchanges
 two = begin next good 0 next good 1
+
+abbrev pub three : Exchanges
+three = two next good 2
 
 -- of four nodes two good, across direction 2
 abbrev pub across : Exchanges
@@ -94,6 +105,14 @@ pub parsed-grow : parsed (grows .frame) ≡ Known (Grow 1 1 0)
 unfolding parsed callOf sized word kindOf
 parsed-grow = refl
 
+pub parsed-fits : parsed (fits .frame) ≡ Known (Request 1 0 4)
+unfolding parsed callOf sized word kindOf
+parsed-fits = refl
+
+pub parsed-fits-pair : parsed (fits-pair .frame) ≡ Known (Request 1 1 4)
+unfolding parsed callOf sized word kindOf
+parsed-fits-pair = refl
+
 -- job j's subcube of node x alone, granted after the calls l
 abbrev pub alone : ℕ → ℕ → Log → Held
 alone j x l = record { holder = j; low = x; stars = 0; before = some l }
@@ -104,8 +123,8 @@ requests = inl refl
 
 -- what the history says: a silent node is not granted; a good one is, and is held; of two the second is the second tried; two silent nodes differ in
 -- a direction, and where one of them is good none do; by two silent nodes across direction 2 direction 1 moves to 2; a job that grows loses its
--- node outside the member; two jobs hold a node each; a job has two nodes with
--- star bits 1, and gives both back
+-- node outside the member; two jobs hold a node each; a job has two nodes with star bits 1, and gives both back; of three good nodes the first fits
+-- by buddy and the third by best fit, beside a block of two; a lone node is a maximal free block, and no pair is free
 pub record Told : Type 0 where
   pub silent : verdict 0 (historyAt 0 begin) (fed (asks 1)) ≡ Refused 14 1
   pub one-granted : verdict 0 (historyAt 0 one) (fed (asks 1)) ≡ granted 1 0 0 1
@@ -133,10 +152,13 @@ pub record Told : Type 0 where
   pub pair-held : historyAt 1 (two next pair) .holder 0 ≡ 1
   pub pair-starred : historyAt 1 (two next pair) .stars 0 ≡ 1
   pub pair-released : verdict 1 (historyAt 1 (two next pair)) (fed gives-back) ≡ Done 2
+  pub first-fit : verdict 2 (historyAt 2 three) (fed (asks 1)) ≡ granted 1 0 0 1
+  pub best-fit : verdict 2 (historyAt 2 three) (fed fits) ≡ granted 1 2 0 2
+  pub no-pair : verdict 1 (historyAt 1 one) (fed fits-pair) ≡ Refused 14 1
   pub shared-held : held (verdicts 1 fresh) [] (feed shared) ≡ alone 2 1 (feed (two next asks 1)) ∷ alone 1 0 (feed two) ∷ []
 
 pub told : Told
-unfolding over some-of node size assign vertices freeAt firstFree anyBelow allOf word kindOf
+unfolding over some-of node size assign vertices freeAt firstFree maximalIn smallest anyBelow allOf word kindOf
     lengthField kind nodeField job dimension strategy among countBelow causes firstMet cause accept tell step verdict without
 told = record {
   silent = refl;
@@ -164,5 +186,8 @@ told = record {
   pair-held = refl;
   pair-starred = refl;
   pair-released = refl;
+  first-fit = refl;
+  best-fit = refl;
+  no-pair = refl;
   shared-held = refl;
 }

@@ -72,7 +72,7 @@ own-two ds P (suc i) l = P .own (suc i) (omega arith) l
 -- others' nodes free: job 1 has node 0 and job 2 node 1, and job 1 is granted both
 both-granted : (s : State) → Valid s → s .n ≡ 1 → getD (s .conditions) 0 0 ≡ 1 → getD (s .conditions) 1 0 ≡ 1 → getD (s .holders) 0 0 ≡ 1
     → getD (s .holders) 1 0 ≡ 2 → othersFree s 1 1 0 .reply ≡ Granted 1 (numbered 0) 1 1
-unfolding guarded over anyBelow countBelow freeAt firstFree
+unfolding guarded over among anyBelow countBelow freeAt firstFree
 both-granted s v n c0 c1 h0 h1 =
     let P = rw n at (v .permutes) in
     let D = directions 1 (s .map) (omega arith) P in

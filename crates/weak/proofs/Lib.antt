@@ -9,3 +9,4 @@ pub mod Relabels
 pub mod Growths
 pub mod Stars
 pub mod Loads
+pub mod BestFits

@@ -33,7 +33,7 @@ module _ (P : Program) (n : ℕ) (b : List ℕ) where
   abbrev pub RefusalRight : Type 0
   RefusalRight =
       (es : Exchanges) (e : Exchange) (q : ℕ) → First (causes n) (historyAt n es) (fed e) q
-      → reply P r₀ es e ≡ replies (Refused q (tried n (fed e) q)) (e .buffer)
+      → reply P r₀ es e ≡ replies (Refused q (tried n (historyAt n es) (fed e) q)) (e .buffer)
 
   -- 3: disjoint
   abbrev pub HeldDisjoint : Type 0

@@ -23,7 +23,7 @@ same-length c = search needs
 
 returns : tie.Need-returns
 returns c =
-    refuses _ _ (c .before .if1 .taken) (fields-refused _ _ _ _ (c .before .before .field-cause .ensures) _ _ (c .before .if1 .taken))
+    refuses _ _ (c .before .if1 .taken) (fields-refused _ _ _ _ _ (c .before .before .field-cause .ensures) _ _ (c .before .if1 .taken))
     (c .refused .ensures)
 
 nodes-of-requires : tie.Need-nodes-of-requires
@@ -45,7 +45,7 @@ returns-2 c =
     let fields = count .before .before .before in
     let a = fields .before .before .before .args in
     refuses _ _ (λ z. absurd (omega arith))
-    (fields-stopped _ _ _ _ (fields .field-cause .ensures) (count .before .before .if1 .left) _ _ 0
+    (fields-stopped _ _ _ _ _ (fields .field-cause .ensures) (count .before .before .if1 .left) _ _ 0
     (ap not (holds-none (decode (a .rec .now)) (a .job) _ _ (count .nodes-of .ensures .0) (at .count-held .ensures) (c .before .if2 .taken))))
     (c .refused2 .ensures)
 
@@ -54,7 +54,7 @@ pow2-requires c κs =
     let count = c .before .before in
     let fields = count .before .before .before in
     let start = fields .before .before .before in
-    let fit = fields-fit _ _ _ _ (fields .field-cause .ensures) (count .before .before .if1 .left) in
+    let fit = fields-fit _ _ _ _ _ (fields .field-cause .ensures) (count .before .before .if1 .left) in
     omega (arith, fit .1, state-valid _ (start .pre) .small)
 
 refused-requires-3 : tie.Need-refused-requires-3
@@ -74,7 +74,7 @@ returns-3 c =
     let e = count .nodes-of .ensures .0 in
     let q = at .count-held .ensures in
     refuses _ _ (λ z. absurd (omega arith))
-    (fields-stopped _ _ _ _ (fields .field-cause .ensures) (count .before .before .if1 .left) _ _ 1 (
+    (fields-stopped _ _ _ _ _ (fields .field-cause .ensures) (count .before .before .if1 .left) _ _ 1 (
       ap not (holds-some (decode (a .rec .now)) (a .job) _ _ e q (some .if2 .left)),
       le-leb (2 ^ a .k) (heldBy (decode (a .rec .now)) (a .job))
           (omega (arith, power .pow2 .ensures, counted (decode (a .rec .now)) (a .job) _ _ e q)),
@@ -88,7 +88,7 @@ grant-on-requires c κs =
     let fields = count .before .before .before in
     let start = fields .before .before .before in
     let held = counted (decode (start .args .rec .now)) (start .args .job) _ _ (count .nodes-of .ensures .0) (at .count-held .ensures) in
-    let fit = fields-fit _ _ _ _ (fields .field-cause .ensures) (count .before .before .if1 .left) in
+    let fit = fields-fit _ _ _ _ _ (fields .field-cause .ensures) (count .before .before .if1 .left) in
     (record { right = start .pre; set = fit .0; counted = held }, fit .1)
 
 same-length-4 : tie.Need-same-length-4
@@ -108,7 +108,7 @@ returns-4 c =
     let more = lt-leb (2 ^ a .k) (heldBy (decode (a .rec .now)) (a .job))
     (omega (arith, power .pow2 .ensures, counted (decode (a .rec .now)) (a .job) _ _ e q)) in
     by-step _
-    (fields-run _ _ _ _ (fields .field-cause .ensures) (count .before .before .if1 .left) _ _
+    (fields-run _ _ _ _ _ (fields .field-cause .ensures) (count .before .before .if1 .left) _ _
     (ap not (holds-some (decode (a .rec .now)) (a .job) _ _ e q (some .if2 .left)), (more, tt)) refl)
     (granted .grant-on .ensures)
 

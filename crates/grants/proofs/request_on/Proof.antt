@@ -18,7 +18,7 @@ same-length : tie.Need-same-length
 same-length c = search needs
 
 returns : tie.Need-returns
-returns c = refuses _ _ (c .before .if1 .taken) (fields-refused _ _ _ _ (c .before .before .field-cause .ensures) _ _ (c .before .if1 .taken))
+returns c = refuses _ _ (c .before .if1 .taken) (fields-refused _ _ _ _ _ (c .before .before .field-cause .ensures) _ _ (c .before .if1 .taken))
     (c .refused .ensures)
 
 nodes-of-requires : tie.Need-nodes-of-requires
@@ -40,7 +40,7 @@ returns-2 c =
     let fields = count .before .before .before in
     let a = fields .before .before .before .args in
     refuses _ _ (λ z. absurd (omega arith))
-    (fields-stopped _ _ _ _ (fields .field-cause .ensures) (count .before .before .if1 .left) _ _ 0
+    (fields-stopped _ _ _ _ _ (fields .field-cause .ensures) (count .before .before .if1 .left) _ _ 0
     (holds-some (decode (a .rec .now)) (a .job) _ _ (count .nodes-of .ensures .0) (at .count-held .ensures) (c .before .if2 .taken)))
     (c .refused2 .ensures)
 
@@ -50,7 +50,7 @@ grant-on-requires c κs =
     let count = at .before in
     let fields = count .before .before .before in
     let start = fields .before .before .before in
-    let fit = fields-fit _ _ _ _ (fields .field-cause .ensures) (count .before .before .if1 .left) in
+    let fit = fields-fit _ _ _ _ _ (fields .field-cause .ensures) (count .before .before .if1 .left) in
     let held = counted (decode (start .args .rec .now)) (start .args .job) _ _ (count .nodes-of .ensures .0) (at .count-held .ensures) in
     (record { right = start .pre; set = fit .0; counted = held }, fit .1)
 
@@ -66,7 +66,7 @@ returns-3 c =
     let a = fields .before .before .before .args in
     let none = holds-none (decode (a .rec .now)) (a .job) _ _ (count .nodes-of .ensures .0) (at .count-held .ensures) (omega arith) in
     by-step _
-    (fields-run _ _ _ _ (fields .field-cause .ensures) (count .before .before .if1 .left) _ _ (none, tt) refl)
+    (fields-run _ _ _ _ _ (fields .field-cause .ensures) (count .before .before .if1 .left) _ _ (none, tt) refl)
     (granted .grant-on .ensures)
 
 pub request-on-spec : {M : Type 1} → statement M

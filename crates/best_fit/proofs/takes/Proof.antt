@@ -1,0 +1,17 @@
+-- `best_fit::takes` meets its contract. Assumes nothing.
+use borrow.Author.Needs.{needs}
+use borrow.Author.Tests.{le-leb, lt-leb}
+use Rattle.best_fit.proofs.takes.Statement.{statement}
+use Rattle.best_fit.proofs.takes.Tie as tie
+
+returns : tie.Need-returns
+returns c = search needs
+
+returns-2 : tie.Need-returns-2
+returns-2 c = simp (c .before .if1 .left, lt-leb _ _ (c .if2 .taken))
+
+returns-3 : tie.Need-returns-3
+returns-3 c = simp (c .before .if1 .left, le-leb _ _ (c .if2 .left))
+
+pub takes-spec : {M : Type 1} → statement M
+takes-spec = tie.close (tie.spec returns returns-2 returns-3)

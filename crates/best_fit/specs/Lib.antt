@@ -1,0 +1,3 @@
+-- The entries of levels, and what the levels show.
+pub mod Entries
+pub mod Seen
