@@ -1,10 +1,10 @@
 //! The frame call: document 01, "Six calls and their frames" and "When a
-//! call says no", and document 02, (e) and (f). Each function checks its causes
-//! in the table's order.
+//! call says no", and document 02, (a), (e) and (f). Each function checks its
+//! causes in the table's order.
 
 use crate::choose::{choose_with, Answer};
 use crate::cube::{self, Nodes};
-use crate::family::EXTENDED;
+use crate::family::STRATEGIES;
 use crate::frame::{self, Call, Reply};
 use crate::record::{self, Record, FAULTY, GOOD, NODES, UNCONFIRMED};
 
@@ -77,13 +77,13 @@ fn request(record: &mut Record, job: u16, k: u8, strategy: u8) -> Reply {
     if record::any_holder(record, |holder| holder == job) {
         return Reply::refuse(10);
     }
-    match first_free(record, job, k, strategy) {
+    match chosen(record, job, k, strategy) {
         Answer::NoneFree { count } => Reply::none_free(count),
         Answer::Found { low, stars, tried } => grant(record, job, low, stars, tried),
     }
 }
 
-/// The job gets the first member that is free to it, and loses its nodes
+/// The job gets what is chosen of what is free to it, and loses its nodes
 /// outside that: document 02, (e).
 fn grow(record: &mut Record, job: u16, k: u8, strategy: u8) -> Reply {
     if let Some(number) = wrong_field(record, job, k, strategy) {
@@ -96,7 +96,7 @@ fn grow(record: &mut Record, job: u16, k: u8, strategy: u8) -> Reply {
     if 1 << k <= held {
         return Reply::refuse(17);
     }
-    match first_free(record, job, k, strategy) {
+    match chosen(record, job, k, strategy) {
         Answer::NoneFree { count } => Reply::none_free(count),
         Answer::Found { low, stars, tried } => {
             record::release(record, job);
@@ -113,11 +113,11 @@ fn wrong_field(record: &Record, job: u16, k: u8, strategy: u8) -> Option<u16> {
     if u32::from(k) > record::dimension(record) {
         return Some(7);
     }
-    (strategy > EXTENDED).then_some(9)
+    (!STRATEGIES.contains(&strategy)).then_some(9)
 }
 
-/// The first member of the family that is free to the job, by label.
-fn first_free(record: &Record, job: u16, k: u8, strategy: u8) -> Answer {
+/// What the strategy chooses of what is free to the job, by label.
+fn chosen(record: &Record, job: u16, k: u8, strategy: u8) -> Answer {
     let free = record::free_nodes(record, job);
     let nodes = Nodes::new(&record::map(record));
     let is_free = |label| free[nodes.node(label) as usize % NODES];

@@ -1,26 +1,33 @@
-//! The walk to the first free member: document 01, "Families and their order".
+//! What a strategy chooses: the first free member that a walk meets, document
+//! 01, "Families and their order", or the best fit, document 02, (a).
 
 use std::ops::Range;
 
+use crate::best::best_fit;
 use crate::cube::{ones, MAX_N};
-use crate::family::{gray, Subcube, BUDDY, EXTENDED, GRAY, TREE};
+use crate::family::{gray, Subcube, BEST_FIT, BUDDY, GRAY, STRATEGIES, TREE};
 
-/// What a walk meets: the first free member and its place from 1, or none.
+/// What a strategy chooses, with 'tried', or that none is free. A walk has tried
+/// the members up to the first free one, or all; best fit counts the maximal
+/// free blocks.
 #[derive(Clone, Copy, Debug, PartialEq, Eq)]
 pub enum Answer {
     Found { low: u32, stars: u32, tried: u32 },
     NoneFree { count: u32 },
 }
 
-/// The first free member of a family, where `free` tells a free label.
-/// The strategy is at most 3, n at most 10 and k at most n.
+/// What a strategy chooses, where `free` tells a free label. The strategy is one
+/// of `STRATEGIES`, n at most 10 and k at most n.
 pub fn choose(strategy: u8, n: u32, k: u32, free: &dyn Fn(u32) -> bool) -> Answer {
     choose_with(strategy, n, k, free)
 }
 
 /// As `choose`, with the test of a label known at compile time.
 pub(crate) fn choose_with(strategy: u8, n: u32, k: u32, free: impl Fn(u32) -> bool) -> Answer {
-    assert!(strategy <= EXTENDED && n <= MAX_N && k <= n);
+    assert!(STRATEGIES.contains(&strategy) && n <= MAX_N && k <= n);
+    if strategy == BEST_FIT {
+        return best_fit(n, k, free);
+    }
     let mut walk = Walk { free, tried: 0 };
     let found = match (strategy, k) {
         (GRAY, _) => walk.gray(n, k),

@@ -1,5 +1,5 @@
 //! What random lists of calls draw: the D of accepted relabels, grants by the
-//! maps that these set, growths, and star bits.
+//! maps that these set, growths, star bits, and best fits.
 
 use std::ops::AddAssign;
 
@@ -7,7 +7,7 @@ use crate::counts::Counts;
 use crate::cube::{relabel, IDENTITY};
 use crate::frame::{self, Call};
 use crate::record::{self, Record, FAULTY, GOOD, UNCONFIRMED};
-use crate::{growths, stars};
+use crate::{fits, growths, stars};
 
 /// Counts for one n.
 #[derive(Clone, Copy, Debug, Default)]
@@ -25,6 +25,17 @@ pub struct Drawn {
     pub after_mixed: u64,
     pub growths: Counts<{ growths::SORTS.len() }>,
     pub stars: Counts<{ stars::SORTS.len() }>,
+    pub fits: Counts<{ fits::SORTS.len() }>,
+}
+
+impl Drawn {
+    /// Each sort of growth, of call by star bits and of best fit in words, the
+    /// least n at which it can come, and how often it came.
+    pub fn sorts(&self) -> impl Iterator<Item = (&'static str, usize, u64)> {
+        let sorts = growths::SORTS.into_iter().chain(stars::SORTS).chain(fits::SORTS);
+        let counts = self.growths.0.into_iter().chain(self.stars.0).chain(self.fits.0);
+        sorts.zip(counts).map(|((sort, least), count)| (sort, least, count))
+    }
 }
 
 impl AddAssign for Drawn {
@@ -37,6 +48,7 @@ impl AddAssign for Drawn {
         self.after_mixed += other.after_mixed;
         self.growths += other.growths;
         self.stars += other.stars;
+        self.fits += other.fits;
     }
 }
 
@@ -53,6 +65,7 @@ impl List {
     /// and after it.
     pub fn add(&mut self, frame: &[u8], number: u32, before: &Record, after: &Record) {
         self.drawn.growths.add(growths::sorts(frame, number, before, after));
+        self.drawn.fits.add(fits::sorts(frame, number, before));
         if number == 0 {
             self.drawn.stars.add(stars::sorts(frame, before, after));
         }

@@ -9,6 +9,10 @@ pub const BUDDY: u8 = 0;
 pub const GRAY: u8 = 1;
 pub const TREE: u8 = 2;
 pub const EXTENDED: u8 = 3;
+pub const BEST_FIT: u8 = 4;
+
+/// The strategies that a request or a growth may name; others are refused 9.
+pub const STRATEGIES: [u8; 5] = [BUDDY, GRAY, TREE, EXTENDED, BEST_FIT];
 
 /// A subcube: its lowest label (stars as 0) and its star bits.
 #[derive(Clone, Copy, Debug, PartialEq, Eq, Hash, PartialOrd, Ord)]
@@ -22,8 +26,8 @@ pub fn gray(b: u32) -> u32 {
     b ^ (b >> 1)
 }
 
-/// The members of a strategy's family in their order.
-/// The strategy is at most 3, n at most 10 and k at most n.
+/// The members of a strategy's family in their order. The strategy is at most
+/// 3, for best fit walks no family; n is at most 10 and k at most n.
 pub fn family(strategy: u8, n: u32, k: u32) -> Vec<Subcube> {
     assert!(strategy <= EXTENDED && n <= MAX_N && k <= n);
     match strategy {

@@ -5,11 +5,19 @@ use std::collections::VecDeque;
 use std::io::{self, Write};
 
 use crate::call::call;
+use crate::family::{BEST_FIT, BUDDY, STRATEGIES};
+use crate::fits;
 use crate::health::{faulty, is_silent, is_wild, Area};
 use crate::log::SETUP;
 use crate::noise::{self, frame, report, Frame};
 use crate::record::{self, setup, Record, SIZE};
 use crate::rng::Rng;
+
+/// The cube is filled about once in so many frames.
+const FILLED: u32 = 100;
+
+/// The most free blocks that are all asked for.
+const FILLED_MOST: usize = 32;
 
 /// Jobs that come beside the small ones: the last, and a byte full or empty.
 const EDGE_JOBS: [u16; 3] = [65535, 256, 255];
@@ -169,9 +177,9 @@ impl Log {
     /// A request or a growth.
     fn ask(&mut self, kind: u16, job: u16, k: u32) -> Frame {
         let strategy = match self.rng.below(32) {
-            0 => 4,
+            0 => 5,
             1 => 255,
-            _ => self.rng.below(4) as u8,
+            _ => self.rng.pick(&STRATEGIES),
         };
         let job = job.to_le_bytes();
         frame(kind, &[job[0], job[1], k as u8, strategy])
@@ -257,11 +265,37 @@ impl Log {
         report(0x0103, node)
     }
 
-    /// Plans reports, a release by each job that holds nodes, and a relabel.
+    /// Plans a request for each maximal free block, largest first, so that buddy
+    /// and best fit take one whole and leave nothing free; then one by best fit.
+    /// That one comes alone if the blocks are too many. Gives the jobs of these,
+    /// which aren't among those that hold nodes.
+    fn fill(&mut self, record: &Record, holding: &[u16]) -> Vec<u16> {
+        let mut blocks = fits::dimensions(record);
+        if blocks.len() > FILLED_MOST {
+            blocks.clear();
+        }
+        blocks.sort_by(|one, other| other.cmp(one));
+        let mut asked: Vec<(u32, u8)> =
+            blocks.into_iter().map(|k| (k, self.rng.pick(&[BUDDY, BEST_FIT]))).collect();
+        asked.push((self.rng.below(self.n + 1), BEST_FIT));
+        let jobs: Vec<u16> = (1..).filter(|job| !holding.contains(job)).take(asked.len()).collect();
+        for (job, (k, strategy)) in jobs.iter().zip(asked) {
+            let [low, high] = job.to_le_bytes();
+            self.plan.push_back(frame(0x0201, &[low, high, k as u8, strategy]));
+        }
+        jobs
+    }
+
+    /// Plans reports, a release by each job that holds nodes, and a relabel. The
+    /// cube is filled first at times.
     fn drain(&mut self, record: &Record) {
+        let mut jobs = record::jobs(record);
+        if self.rng.one_in(FILLED / self.drained) {
+            jobs.extend(self.fill(record, &jobs));
+        }
         let reports = self.area.settle(&mut self.rng, record::conditions(record));
         self.plan.extend(reports);
-        for job in record::jobs(record) {
+        for job in jobs {
             self.plan.push_back(frame(0x0202, &job.to_le_bytes()));
         }
         self.plan.push_back(frame(0x0203, &[]));

@@ -4,16 +4,19 @@
 //! and document 02, the requests after it, alone, and is what the proved
 //! program is compared with in test runs.
 //! `setup`, `call` and `load` work on byte slices, as the C boundary does;
-//! `choose` and `family` answer for the four strategies by label.
+//! `choose` answers for the five strategies by label, and `family` lists the
+//! members of the four that walk a family.
 
 #![forbid(unsafe_code)]
 
+mod best;
 pub mod call;
 pub mod choose;
 pub mod counts;
 pub mod cube;
 pub mod drawn;
 pub mod family;
+pub mod fits;
 pub mod frame;
 pub mod gen;
 pub mod growths;

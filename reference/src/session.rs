@@ -11,6 +11,10 @@ use crate::{call, setup};
 /// How many calls of a session are drawn.
 const DRAWN: u32 = 40;
 
+/// A session of dimension n draws from the number n + FIRST on. From here the
+/// sessions together meet every sort of call; from most numbers they don't.
+const FIRST: u32 = 261;
+
 /// The record that a session starts at: each node but 2^n / 2 has been
 /// reported good, and that one stays silent.
 pub fn start(n: u32) -> Record {
@@ -24,23 +28,23 @@ pub fn start(n: u32) -> Record {
 /// The calls of a session after its start: the drawn ones, then those that
 /// end it.
 pub fn calls(n: u32) -> Vec<Call> {
-    let numbers = successors(Some(next(n + 1)), |drawn| Some(next(*drawn)));
+    let numbers = successors(Some(next(n + FIRST)), |drawn| Some(next(*drawn)));
     let drawn = (0..DRAWN).zip(numbers).map(|(place, drawn)| call_of(n, place, drawn));
     drawn.chain(last(n)).collect()
 }
 
-/// Numbers drawn one after another; a session of dimension n starts at n + 1.
+/// Numbers drawn one after another.
 fn next(drawn: u32) -> u32 {
     (drawn * 17364 + 1) % 65521
 }
 
 /// The call at a place, from 0, of a session of dimension n: two faults, a
 /// relabel, then the kind that the number gives. Nodes are eighths of the cube
-/// and 2^n, jobs 0 to 3 and 65535, k up to n + 1, strategies up to 4.
+/// and 2^n, jobs 0 to 3 and 65535, k up to n + 1, strategies up to 5.
 fn call_of(n: u32, place: u32, drawn: u32) -> Call {
     let node = (drawn % 9 * (1 << n) / 8) as u16;
     let job = [0, 1, 2, 3, 65535][(drawn / 5 % 5) as usize];
-    let (k, strategy) = ((drawn / 11 % (n + 2)) as u8, (drawn / 13 % 5) as u8);
+    let (k, strategy) = ((drawn / 11 % (n + 2)) as u8, (drawn / 13 % 6) as u8);
     let kind = match place {
         0 | 1 => 1,
         2 => 6,
@@ -60,7 +64,7 @@ fn call_of(n: u32, place: u32, drawn: u32) -> Call {
 /// The end of a session: jobs 1 and 2 ask for a node each, then they grow by
 /// turns, to each k up to n; half way node 1 fails. The strategies go round.
 fn last(n: u32) -> impl Iterator<Item = Call> {
-    let strategy = move |k| ((n + k / 2) % 4) as u8;
+    let strategy = move |k| ((n + k / 2) % 5) as u8;
     let requests = [1, 2].map(|job| Call::Request { job, k: 0, strategy: strategy(0) });
     let growth = move |k| Call::Grow { job: 1 + k as u16 % 2, k: k as u8, strategy: strategy(k) };
     let (early, late) = ((0..n / 2).map(growth), (n / 2..=n).map(growth));

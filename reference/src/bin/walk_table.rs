@@ -1,11 +1,12 @@
 //! Prints what each strategy chooses for every n from 0 to 10 and every k on
-//! seven patterns of free labels: the expected output of crates/walk_table.
+//! nine patterns of free labels: the expected output of crates/walk_table.
 
 use std::io::{self, BufWriter, Write};
 
+use cube_reference::family::STRATEGIES;
 use cube_reference::{choose, Answer, MAX_N};
 
-/// Whether a label is free in a pattern: all, none, and five that are mixed.
+/// Whether a label is free in a pattern: all, none, and seven that are mixed.
 fn is_free(pattern: u32, label: u32) -> bool {
     match pattern {
         0 => true,
@@ -14,7 +15,9 @@ fn is_free(pattern: u32, label: u32) -> bool {
         3 => (label * 7 + label / 5) % 11 < 8,
         4 => label % 16 >= 5,
         5 => (label / 2).is_multiple_of(2),
-        _ => (label / 4 + label).is_multiple_of(2),
+        6 => (label / 4 + label).is_multiple_of(2),
+        7 => label % 16 < 11,
+        _ => label % 341 != 20,
     }
 }
 
@@ -22,8 +25,8 @@ fn main() -> io::Result<()> {
     let mut out = BufWriter::new(io::stdout().lock());
     for n in 0..=MAX_N {
         for k in 0..=n {
-            for strategy in 0..4 {
-                for pattern in 0..7 {
+            for strategy in STRATEGIES {
+                for pattern in 0..9 {
                     write!(out, "{n} {k} {strategy} {pattern} ")?;
                     match choose(strategy, n, k, &|label| is_free(pattern, label)) {
                         Answer::Found { low, stars, tried } => {

@@ -8,7 +8,6 @@ use cube_reference::drawn::{Drawn, List};
 use cube_reference::gen::write_log;
 use cube_reference::log::run;
 use cube_reference::session::fresh;
-use cube_reference::{growths, stars};
 
 use crate::support::at;
 
@@ -108,10 +107,10 @@ fn frames(log: &[u8]) -> Vec<&[u8]> {
     frames
 }
 
-/// What logs of 3000 frames draw for each n, eight logs each.
+/// What logs of 3000 frames draw for each n, twelve logs each.
 fn drawn() -> [Drawn; 11] {
     let mut drawn = [Drawn::default(); 11];
-    for seed in 0..88 {
+    for seed in 0..132 {
         let mut log = Vec::new();
         write_log(seed, 3000, &mut log).unwrap();
         let (mut record, mut list) = (fresh((seed % 11) as u32), List::default());
@@ -136,12 +135,11 @@ fn relabels_are_drawn_with_every_kind_of_d() {
 }
 
 /// Each sort of growth comes at every n where it can, and each sort of call by
-/// star bits.
+/// star bits and by best fit.
 #[test]
 fn calls_are_drawn_of_every_sort() {
     for (n, drawn) in drawn().into_iter().enumerate() {
-        let growths = growths::SORTS.into_iter().zip(drawn.growths.0);
-        for ((sort, least), count) in growths.chain(stars::SORTS.into_iter().zip(drawn.stars.0)) {
+        for (sort, least, count) in drawn.sorts() {
             assert!(n < least || count >= 10, "n {n}, {sort}: {count}");
         }
     }
@@ -158,5 +156,6 @@ fn edges_are_met() {
     assert!(met(&[0xff, 0xff], " 0") > 0); // the longest frame
     assert!(met(&[8, 0, 0x04, 0x02, 0, 0], " refused 6 0") > 10);
     assert!(met(&[8, 0, 0x04, 0x02, 0xff, 0xff], " refused 17 0") > 10);
-    assert!(met(&[8, 0, 0x04, 0x02], " 0 255 1") > 0); // 256 nodes
+    let tried = [" 255 1", " 255 2", " 255 3"]; // growths to 256 nodes
+    assert!(tried.iter().any(|words| met(&[8, 0, 0x04, 0x02], words) > 0));
 }

@@ -21,7 +21,7 @@ fn holding(n: u32, nodes: &[u16], faulty: &[u16]) -> Cube {
 
 #[test]
 fn a_job_grows_in_place() {
-    for strategy in 0..=3 {
+    for strategy in 0..=4 {
         let mut cube = Cube::with_good(10, |_| true);
         assert_eq!(cube.call(&request(65535, 0, strategy)), granted(65535, 0, 0, 1));
         for k in 1..=10 {
@@ -158,7 +158,7 @@ fn cause_11_the_job_holds_none() {
 
 #[test]
 fn cause_17_not_more_than_the_nodes_held() {
-    for strategy in 0..=3 {
+    for strategy in 0..=4 {
         for k in 0..=1 {
             refuses(&two_jobs(), &grow(1, k, strategy), 17, 0);
         }
@@ -196,17 +196,17 @@ fn the_first_cause_answers() {
     refuses(&cube, &cut[..7], 3, 0); // 3 and 5 to 9
     refuses(&cube, &frame(0x0204, &[0, 0, 9, 9, 9]), 5, 0); // 5 and 6, 7, 9
     refuses(&cube, &frame(0x0204, &[3, 0]), 5, 0); // 5 and 11
-    refuses(&cube, &grow(0, 4, 4), 6, 0); // 6, 7 and 9
+    refuses(&cube, &grow(0, 4, 5), 6, 0); // 6, 7 and 9
     refuses(&cube, &grow(0, 4, BUDDY), 6, 0); // 6 and 7
-    refuses(&cube, &grow(0, 2, 4), 6, 0); // 6 and 9
+    refuses(&cube, &grow(0, 2, 5), 6, 0); // 6 and 9
     refuses(&holding(2, &[0, 1, 2, 3], &[]), &grow(0, 2, BUDDY), 6, 0); // 6 and 11
     refuses(&cube, &grow(0, 0, BUDDY), 6, 0); // 6; four nodes are unheld
     refuses(&cube, &grow(0, 3, BUDDY), 6, 0); // 6 and 14
-    refuses(&cube, &grow(1, 4, 4), 7, 0); // 7 and 9
+    refuses(&cube, &grow(1, 4, 5), 7, 0); // 7 and 9
     refuses(&cube, &grow(3, 4, BUDDY), 7, 0); // 7 and 11
     refuses(&cube, &grow(1, 255, BUDDY), 7, 0);
-    refuses(&cube, &grow(3, 2, 4), 9, 0); // 9 and 11
-    refuses(&cube, &grow(1, 1, 4), 9, 0); // 9 and 17
+    refuses(&cube, &grow(3, 2, 5), 9, 0); // 9 and 11
+    refuses(&cube, &grow(1, 1, 5), 9, 0); // 9 and 17
     refuses(&cube, &grow(1, 3, 255), 9, 0); // 9 and 14
     refuses(&cube, &grow(3, 3, BUDDY), 11, 0); // 11 and 14
     refuses(&holding(1, &[0, 1], &[0]), &grow(1, 1, BUDDY), 17, 0); // 17 and 14
@@ -237,7 +237,7 @@ fn growths_are_by_label_and_in_node_numbers() {
 #[test]
 fn at_n_0_no_job_grows() {
     let mut cube = Cube::with_good(0, |_| true);
-    for strategy in 0..=3 {
+    for strategy in 0..=4 {
         refuses(&cube, &grow(1, 0, strategy), 11, 0);
         assert_eq!(cube.call(&request(1, 0, strategy)), granted(1, 0, 0, 1));
         refuses(&cube, &grow(1, 0, strategy), 17, 0);

@@ -3,6 +3,7 @@
 use cube_reference::family;
 use cube_reference::rng::Rng;
 
+use crate::blocks::best_fit;
 use crate::support::*;
 
 pub struct History {
@@ -145,7 +146,7 @@ impl History {
             (6, (request || release || grow) && job == 0),
             (7, (request || grow) && wide),
             (8, report && condition.is_none()),
-            (9, (request || grow) && strategy > 3),
+            (9, (request || grow) && strategy > 4),
             (10, request && held != 0),
             (11, (release || grow) && held == 0),
             (17, grow && !wide && 1 << k <= held),
@@ -165,11 +166,13 @@ impl History {
             let others = self.holder[node] != 0 && self.holder[node] != job;
             free[self.label(node)] = self.condition[node] == 1 && !others;
         }
-        let members = family(strategy, self.n, k.into());
-        let Some(place) = members.iter().position(|m| is_free(m.low, m.stars, &free)) else {
-            return (14, Some(vec![0x8002, 14, members.len() as u16]));
+        let (found, tried) = match strategy {
+            BEST_FIT => best_fit(k, &free),
+            _ => first_free(strategy, self.n, k, &free),
         };
-        let (low, stars) = (members[place].low as usize, members[place].stars as usize);
+        let Some((low, stars)) = found else {
+            return (14, Some(vec![0x8002, 14, tried]));
+        };
         let inside = |node: &usize| self.label(*node) & !stars == low;
         let nodes: Vec<usize> = (0..1 << self.n).filter(inside).collect();
         self.release(job);
@@ -177,7 +180,7 @@ impl History {
         for node in &nodes {
             (self.holder[*node], self.stars[*node]) = (job, star_bits);
         }
-        (0, Some(vec![0x8001, job, nodes[0] as u16, star_bits, place as u16 + 1]))
+        (0, Some(vec![0x8001, job, nodes[0] as u16, star_bits, tried]))
     }
 
     fn release(&mut self, job: u16) -> u16 {
@@ -198,6 +201,19 @@ impl History {
             self.map[*i as usize - 1] = if identity { *i } else { new };
         }
         d.len() as u16
+    }
+}
+
+/// The first free member of a family, by lowest label and stars, and its place
+/// from 1; or none, and the family's count.
+fn first_free(strategy: u8, n: u32, k: u8, free: &[bool]) -> (Option<(usize, usize)>, u16) {
+    let members = family(strategy, n, k.into());
+    match members.iter().position(|member| is_free(member.low, member.stars, free)) {
+        Some(place) => {
+            let (low, stars) = (members[place].low as usize, members[place].stars as usize);
+            (Some((low, stars)), place as u16 + 1)
+        }
+        None => (None, members.len() as u16),
     }
 }
 

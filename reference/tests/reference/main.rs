@@ -1,5 +1,7 @@
 //! The reference program held to documents 01 and 02 and to the sources they cite.
 
+mod best_fit;
+mod blocks;
 mod families;
 mod generator;
 mod growth;

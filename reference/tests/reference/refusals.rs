@@ -80,7 +80,7 @@ fn cause_6_job_0() {
 fn cause_7_dimension() {
     for n in 0..=10 {
         let mut cube = Cube::with_good(n, |_| true);
-        for strategy in 0..=3 {
+        for strategy in 0..=4 {
             refuses(&cube, &request(1, n as u8 + 1, strategy), 7, 0);
             refuses(&cube, &request(1, 255, strategy), 7, 0);
         }
@@ -107,8 +107,13 @@ fn cause_8_node() {
 
 #[test]
 fn cause_9_strategy() {
-    for strategy in [4, 255] {
+    for strategy in [5, 6, 255] {
         refuses(&busy(), &request(1, 0, strategy), 9, 0);
+        refuses(&busy(), &grow(7, 2, strategy), 9, 0);
+    }
+    for strategy in 0..=4 {
+        assert!(matches!(busy().call(&request(1, 0, strategy)), Got::Granted { .. }));
+        assert!(matches!(busy().call(&grow(7, 2, strategy)), Got::Granted { .. }));
     }
 }
 
@@ -165,15 +170,15 @@ fn the_first_cause_answers() {
     refuses(&cube, &frame(0x0202, &[0, 0, 0]), 5, 0); // 5 and 6
     refuses(&cube, &frame(0x0101, &[16, 0, 0]), 5, 0); // 5 and 8
     refuses(&cube, &frame(0x0203, &[0]), 5, 0); // 5 and 13
-    refuses(&cube, &request(0, 5, 4), 6, 0); // 6, 7 and 9
-    refuses(&cube, &request(0, 0, 4), 6, 0); // 6 and 9
+    refuses(&cube, &request(0, 5, 5), 6, 0); // 6, 7 and 9
+    refuses(&cube, &request(0, 0, 5), 6, 0); // 6 and 9
     refuses(&cube, &request(0, 4, BUDDY), 6, 0); // 6 and 14
     refuses(&Cube::new(4), &release(0), 6, 0); // 6 and 11
-    refuses(&cube, &request(7, 5, 4), 7, 0); // 7, 9 and 10
+    refuses(&cube, &request(7, 5, 5), 7, 0); // 7, 9 and 10
     refuses(&cube, &request(7, 5, BUDDY), 7, 0); // 7 and 10
     refuses(&cube, &repaired(16), 8, 0); // 8 and 12
-    refuses(&cube, &request(7, 4, 4), 9, 0); // 9, 10 and 14
-    refuses(&cube, &request(1, 4, 4), 9, 0); // 9 and 14
+    refuses(&cube, &request(7, 4, 5), 9, 0); // 9, 10 and 14
+    refuses(&cube, &request(1, 4, 5), 9, 0); // 9 and 14
     refuses(&cube, &request(7, 4, BUDDY), 10, 0); // 10 and 14
 }
 

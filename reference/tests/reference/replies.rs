@@ -77,7 +77,7 @@ fn both_bytes_of_a_job_count() {
 
 #[test]
 fn one_job_may_hold_all_1024_nodes() {
-    for strategy in 0..=3 {
+    for strategy in 0..=4 {
         let mut cube = Cube::with_good(10, |_| true);
         assert_eq!(cube.call(&request(65535, 10, strategy)), granted(65535, 0, 1023, 1));
         assert_eq!(cube.held_by(65535).len(), 1024);

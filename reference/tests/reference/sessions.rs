@@ -69,7 +69,7 @@ fn row_8_labels() {
 
 #[test]
 fn row_9_one_node() {
-    for strategy in 0..=3 {
+    for strategy in 0..=4 {
         let mut cube = Cube::with_good(0, |_| true);
         assert_eq!(cube.call(&request(1, 0, strategy)), granted(1, 0, 0, 1));
     }

@@ -6,6 +6,7 @@ pub const BUDDY: u8 = 0;
 pub const GRAY: u8 = 1;
 pub const TREE: u8 = 2;
 pub const EXTENDED: u8 = 3;
+pub const BEST_FIT: u8 = 4;
 
 /// The size of a record, and where it has holders, conditions and star bits:
 /// document 01, "Node and record", and document 02, (f).

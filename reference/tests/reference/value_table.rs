@@ -6,7 +6,6 @@ use std::collections::BTreeSet;
 use cube_reference::drawn::List;
 use cube_reference::frame::{Call, Reply};
 use cube_reference::session::{calls, damaged, frame_of, make, start, sum, DAMAGES, EACH, RIGHT};
-use cube_reference::{growths, stars};
 
 use crate::support::SIZE;
 
@@ -50,13 +49,13 @@ fn the_sessions_have_every_kind_accepted_and_every_strategy_granted() {
             other => panic!("no call gives {other:?}"),
         };
     }
-    assert_eq!(granted, (0..=3).collect());
-    assert_eq!(grown, (0..=3).collect());
+    assert_eq!(granted, (0..=4).collect());
+    assert_eq!(grown, (0..=4).collect());
     assert_eq!(done.len(), 7, "{done:?}");
 }
 
 #[test]
-fn the_sessions_have_every_sort_of_growth_and_of_star_bits() {
+fn the_sessions_have_every_sort_of_call() {
     let mut list = List::default();
     for n in 0..=10 {
         let mut record = start(n);
@@ -66,10 +65,8 @@ fn the_sessions_have_every_sort_of_growth_and_of_star_bits() {
             list.add(&frame_of(call), number, &before, &record);
         }
     }
-    let growths = growths::SORTS.iter().zip(list.drawn.growths.0);
-    for ((sort, _), count) in growths.chain(stars::SORTS.iter().zip(list.drawn.stars.0)) {
-        assert_ne!(count, 0, "{sort}");
-    }
+    let missing: Vec<_> = list.drawn.sorts().filter(|(.., count)| *count == 0).collect();
+    assert!(missing.is_empty(), "{missing:?}");
 }
 
 #[test]
