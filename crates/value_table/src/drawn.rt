@@ -3,7 +3,7 @@ use hypercube::Node;
 use state::Call;
 ghost use Prim.Native.Nat.{_≤_};
 
-// The number after x; a session of dimension n starts at n + 1.
+// The number after x; a session of dimension n starts at n + 261.
 pub(crate) fn after(x: u32) -> u32 {
     (x % 65521 * 17364 + 1) % 65521
 }
@@ -28,9 +28,9 @@ fn k_of(n: u16, x: u32) -> u8
     (x / 11 % (n as u32 + 2)) as u8
 }
 
-// Strategies up to 4.
+// Strategies up to 5.
 fn strategy_of(x: u32) -> u8 {
-    (x / 13 % 5) as u8
+    (x / 13 % 6) as u8
 }
 
 fn request_of(n: u16, x: u32) -> Call

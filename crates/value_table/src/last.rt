@@ -12,7 +12,7 @@ fn request(n: u16, job: u16) -> Call
     Call::Request {
         job,
         k: 0,
-        strategy: (n % 4) as u8,
+        strategy: (n % 5) as u8,
     }
 }
 
@@ -22,7 +22,7 @@ fn growth(n: u16, k: u16) -> Call
     Call::Grow {
         job: 1 + k % 2,
         k: k as u8,
-        strategy: ((n + k / 2) % 4) as u8,
+        strategy: ((n + k / 2) % 5) as u8,
     }
 }
 

@@ -31,7 +31,7 @@ fn calls(n: u16, start: State, rec: &mut [u8]) -> State
     requires { ⌜ n ≤ 10 ⌝ }
 {
     let mut s = start;
-    let mut x = n as u32 + 1;
+    let mut x = n as u32 + 261;
     let mut place: u32 = 0;
     while place < 40 {
         x = drawn::after(x);

@@ -1,10 +1,10 @@
-// What each strategy chooses for every n from 0 to 10 and every k on seven patterns of free labels. The second program writes what is expected:
+// What each strategy chooses for every n from 0 to 10 and every k on nine patterns of free labels. The second program writes what is expected:
 // cargo run --release --bin walk-table, in reference/.
 use hypercube::Walk;
 use libc::STDOUT_FILENO;
 ghost use Prim.Native.Nat.{_≤_, _<_};
 
-// The flag of a label in a pattern: all free, none, and five that are mixed.
+// The flag of a label in a pattern: all free, none, and seven that are mixed.
 fn flag_of(pattern: u16, l: u16) -> u8
     requires { ⌜ l < 1024 ⌝ }
 {
@@ -15,7 +15,9 @@ fn flag_of(pattern: u16, l: u16) -> u8
         3 => (l * 7 + l / 5) % 11 < 8,
         4 => 5 <= l % 16,
         5 => l / 2 % 2 == 0,
-        _ => (l / 4 + l) % 2 == 0,
+        6 => (l / 4 + l) % 2 == 0,
+        7 => l % 16 < 11,
+        _ => l % 341 != 20,
     };
     if free { 1 } else { 0 }
 }
@@ -61,7 +63,7 @@ fn patterns(n: u16, k: u16, strategy: u8)
     requires { ⌜ (k ≤ n) × (n ≤ 10) ⌝ }
 {
     let mut pattern: u16 = 0;
-    while pattern < 7 {
+    while pattern < 9 {
         let flags = flags_of(pattern);
         print(n);
         print(k);
@@ -76,7 +78,7 @@ fn strategies(n: u16, k: u16)
     requires { ⌜ (k ≤ n) × (n ≤ 10) ⌝ }
 {
     let mut strategy: u8 = 0;
-    while strategy < 4 {
+    while strategy < 5 {
         patterns(n, k, strategy);
         strategy += 1;
     }

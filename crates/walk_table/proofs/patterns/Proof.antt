@@ -9,10 +9,10 @@ use Rattle.walk_table.proofs.print_walk.Reads as print-walk-reads
 use Rattle.walks.proofs.choose.Reads as choose-reads
 
 abbrev Inv-loop : tie.InvT-loop
-Inv-loop n k strategy pattern₀ pattern = pattern ≤ 7
+Inv-loop n k strategy pattern₀ pattern = pattern ≤ 9
 
 abbrev μ-loop : tie.MeasureT-loop
-μ-loop n k strategy pattern₀ pattern = 7 - pattern
+μ-loop n k strategy pattern₀ pattern = 9 - pattern
 
 loop-holds : tie.Need-loop-holds Inv-loop μ-loop
 loop-holds c = search needs

@@ -6,10 +6,10 @@ use Rattle.walk_table.proofs.strategies.Tie as tie
 use Rattle.walk_table.proofs.patterns.Reads as patterns-reads
 
 abbrev Inv-loop : tie.InvT-loop
-Inv-loop n k strategy₀ strategy = strategy ≤ 4
+Inv-loop n k strategy₀ strategy = strategy ≤ 5
 
 abbrev μ-loop : tie.MeasureT-loop
-μ-loop n k strategy₀ strategy = 4 - strategy
+μ-loop n k strategy₀ strategy = 5 - strategy
 
 loop-holds : tie.Need-loop-holds Inv-loop μ-loop
 loop-holds c = search needs
