@@ -4,7 +4,7 @@ use std::fmt::{self, Display};
 
 use cube_reference::drawn::Drawn;
 use cube_reference::record::{dimension, holder, is_valid, set_stars, stars, Record, NODES};
-use cube_reference::{growths, stars as star_bits};
+use cube_reference::{fits, growths, stars as star_bits};
 
 use crate::loads::Loads;
 
@@ -19,8 +19,8 @@ const OF_GROWTHS: [usize; 11] = [0, 1, 2, 3, 5, 6, 7, 9, 11, 14, 17];
 /// silent and faulty nodes at every n from 2.
 const RELABEL: u64 = 10;
 
-/// So often at least is each sort of growth, and of call by star bits, to come
-/// at every n where it can.
+/// So often at least is each sort of growth, of call by star bits and of best fit
+/// to come at every n where it can.
 const SORT: u64 = 5;
 
 /// So many lists at least are to begin where star bits alone make it no record.
@@ -67,10 +67,8 @@ impl Seen {
 
     fn rare_sort(&self) -> Option<String> {
         for (n, drawn) in self.drawn.iter().enumerate() {
-            let growths = growths::SORTS.iter().zip(drawn.growths.0);
-            let sorts = growths.chain(star_bits::SORTS.iter().zip(drawn.stars.0));
-            let mut rare = sorts.filter(|((_, least), count)| n >= *least && *count < SORT);
-            if let Some(((sort, _), count)) = rare.next() {
+            let mut rare = drawn.sorts().filter(|(_, least, count)| n >= *least && *count < SORT);
+            if let Some((sort, _, count)) = rare.next() {
                 return Some(format!("at n {n} came {count} times: {sort}"));
             }
         }
@@ -107,15 +105,19 @@ impl Display for Seen {
         write!(to, "all n {}, between {}, of these {} by ", sum.all, sum.between, sum.mixed)?;
         write!(to, "silent and faulty nodes together, then {} grants; ", sum.after_mixed)?;
         write!(to, "growths by number {:?}", self.growths)?;
-        for ((sort, _), count) in growths::SORTS.iter().zip(sum.growths.0) {
-            write!(to, ", {count} {sort}")?;
-        }
+        list(to, &growths::SORTS, &sum.growths.0)?;
         write!(to, "; star bits: {:?} lists begun with wrong ones", self.starred)?;
-        for ((sort, _), count) in star_bits::SORTS.iter().zip(sum.stars.0) {
-            write!(to, ", {count} {sort}")?;
-        }
+        list(to, &star_bits::SORTS, &sum.stars.0)?;
+        write!(to, "; best fit")?;
+        list(to, &fits::SORTS, &sum.fits.0)?;
         write!(to, "; {}", self.loads)
     }
+}
+
+/// How often each sort came.
+fn list(to: &mut fmt::Formatter, sorts: &[(&str, usize)], counts: &[u64]) -> fmt::Result {
+    let mut sorts = sorts.iter().zip(counts);
+    sorts.try_for_each(|((sort, _), count)| write!(to, ", {count} {sort}"))
 }
 
 /// Whether star bits alone make this no record: those of a node below 2^n, or
