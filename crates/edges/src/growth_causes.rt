@@ -51,14 +51,14 @@ fn frame_pairs(rec: &mut [u8; record::SIZE]) {
 // That node 1 has no holder makes it no node of job 0.
 fn job_pairs(rec: &mut [u8; record::SIZE]) {
     grow(b"growth, causes 6 and 7", rec, 0, 2, 0);
-    grow(b"growth, causes 6 and 9", rec, 0, 0, 4);
+    grow(b"growth, causes 6 and 9", rec, 0, 0, 5);
     grow(b"growth, causes 6 and 11", rec, 0, 0, 0);
     grow(b"growth, causes 6 and 14", rec, 0, 1, 0);
 }
 
 // 2^16 and 2^255 are no numbers of two bytes.
 fn size_pairs(rec: &mut [u8; record::SIZE]) {
-    grow(b"growth, causes 7 and 9", rec, 7, 2, 4);
+    grow(b"growth, causes 7 and 9", rec, 7, 2, 5);
     grow(b"growth, causes 7 and 11", rec, 8, 2, 0);
     grow(b"growth, causes 7 and 14", rec, 7, 2, 0);
     grow(b"growth, cause 7, k 16", rec, 7, 16, 0);
@@ -66,8 +66,8 @@ fn size_pairs(rec: &mut [u8; record::SIZE]) {
 }
 
 fn strategy_pairs(rec: &mut [u8; record::SIZE]) {
-    grow(b"growth, causes 9 and 11", rec, 8, 0, 4);
-    grow(b"growth, causes 9 and 17", rec, 7, 0, 4);
+    grow(b"growth, causes 9 and 11", rec, 8, 0, 5);
+    grow(b"growth, causes 9 and 17", rec, 7, 0, 5);
     grow(b"growth, causes 9 and 14", rec, 7, 1, 255);
 }
 

@@ -1,5 +1,6 @@
-// The edges of document 01, and the causes in pairs: where two rows of the table are met at once, the first wins; then those of relabels,
-// growths, star bits and loading. Each line has the number returned and the six words of the reply buffer, which held 61166 in each before the call.
+// The edges of document 01, and the causes in pairs: where two rows of the table are met at once, the first wins; then those of relabels, growths,
+// star bits, loading and best fit. Each line has the number returned and the six words of the reply buffer, which held 61166 in each before the call.
+mod best_fits;
 mod growth_causes;
 mod growths;
 mod loading;
@@ -144,9 +145,9 @@ fn job_pairs(rec: &mut [u8]) {
 
 fn call_pairs(rec: &mut [u8]) {
     call(b"causes 5 and 8", rec, b"\x07\x00\x01\x01\x02\x00\x00");
-    call(b"causes 7 and 9", rec, b"\x08\x00\x01\x02\x08\x00\x02\x04");
+    call(b"causes 7 and 9", rec, b"\x08\x00\x01\x02\x08\x00\x02\x05");
     call(b"causes 8 and 12", rec, b"\x06\x00\x03\x01\x02\x00");
-    call(b"causes 9 and 10", rec, b"\x08\x00\x01\x02\x07\x00\x00\x04");
+    call(b"causes 9 and 10", rec, b"\x08\x00\x01\x02\x07\x00\x00\x05");
     call(
         b"causes 10 and 14",
         rec,
@@ -223,4 +224,5 @@ fn main() {
     star_records::star_records();
     star_bits::star_bits();
     loading::loads();
+    best_fits::best_fits();
 }
