@@ -4,7 +4,7 @@
 //! are, and whether the job keeps them.
 
 use crate::patterns::{is_even, record, used, Pattern, Request};
-use crate::patterns::{BLOCKS, LATE, MIXED, SILENT, WEIGHTS};
+use crate::patterns::{BLOCKS, LATE, MIXED, SILENT, SIZES, WEIGHTS};
 use crate::relabels::RECORDS;
 use crate::rows::{Record, Row};
 use cube_proved::frame::{grow, request};
@@ -52,7 +52,7 @@ const NEARLY: Own = Labels("own nearly all", |r, x| (x + 1 < 1 << r.k).then_some
 type Growth = (Pattern, Own);
 
 /// The job gets a member with its nodes, one elsewhere, or none.
-const PLAIN: [Growth; 10] = [
+const PLAIN: [Growth; 12] = [
     (SILENT[0], Granted),
     (SILENT[0], LAST),
     (SILENT[0], BROKEN),
@@ -63,6 +63,8 @@ const PLAIN: [Growth; 10] = [
     (BLOCKS[1], NEARLY),
     (LATE[0], NEARLY),
     (WEIGHTS[4], FILL),
+    (SIZES[0], LAST),
+    (SIZES[6], Granted),
 ];
 
 impl Own {
@@ -133,10 +135,10 @@ fn titled(n: u32, growths: &[Growth], map: Map) -> Vec<(String, Vec<Row>)> {
 /// Every pattern at n = 10, and some on a relabelled cube and on smaller ones.
 pub fn all() -> Vec<(String, Vec<Row>)> {
     let (map, _) = relabel(10, [0, 0x2aa]);
-    let some = [PLAIN[1], PLAIN[4], PLAIN[5], PLAIN[6]];
+    let some = [PLAIN[1], PLAIN[4], PLAIN[5], PLAIN[6], PLAIN[10], PLAIN[11]];
     let parts = [
         titled(10, &PLAIN, IDENTITY),
-        titled(10, &[PLAIN[2], PLAIN[4], PLAIN[9]], map),
+        titled(10, &[PLAIN[2], PLAIN[4], PLAIN[9], PLAIN[11]], map),
         titled(7, &some, IDENTITY),
         titled(4, &some, IDENTITY),
     ];
@@ -168,13 +170,15 @@ fn draw(rng: &mut Rng, n: u32, others: bool) -> Record {
 /// first node is another job's; and refused because it holds enough.
 pub fn drawn(n: u32) -> impl Iterator<Item = Row> {
     let rows = [
-        ("growth granted, drawn", n as u8, false),
-        ("growth, none free, drawn", n as u8, true),
-        ("refused growth (17), drawn", 0, true),
+        ("growth granted, drawn, buddy", n as u8, 0, false),
+        ("growth, none free, drawn, buddy", n as u8, 0, true),
+        ("refused growth (17), drawn", 0, 0, true),
+        ("growth granted, drawn, best fit", n as u8, 4, false),
+        ("growth, none free, drawn, best fit", n as u8, 4, true),
     ];
-    rows.into_iter().map(move |(name, k, others)| {
+    rows.into_iter().map(move |(name, k, strategy, others)| {
         let rng = &mut Rng::new(22);
         let starts = (0..RECORDS).map(|_| draw(rng, n, others)).collect();
-        Row { name: name.to_string(), n, starts, call: grow(JOB, k, 0) }
+        Row { name: name.to_string(), n, starts, call: grow(JOB, k, strategy) }
     })
 }

@@ -1,5 +1,6 @@
 //! Rows of calls, and their times by several programs.
 
+pub mod drawn;
 mod given;
 pub mod growths;
 mod held;

@@ -1,9 +1,10 @@
 //! The bit-parallel limit: how fast a request or a growth can be answered from a
 //! record if 1024 flags are sixteen words and every star is an 'and' with a
-//! shift. It is not proved, and answers for buddy, tree and extended alone.
+//! shift. It is not proved, and answers for all strategies but Gray.
 //!
 //! It reads conditions, holders and the map from the record, finds the first
-//! free member and its place, or that there is none, and writes the reply and
+//! free member and its place, or for best fit the block and how many there are,
+//! or that there is none, and writes the reply and
 //! the holders and star bits of the record. It takes record and frame for right
 //! ones: it makes no test of refusals before 14.
 
@@ -36,6 +37,7 @@ pub fn call(record: &mut [u8], frame: &[u8], reply: &mut [u8]) -> u32 {
         _ => Labels::free(record, [0]),
     };
     let answer = match strategy {
+        4 => best_fit(free, k),
         _ if k == 0 => buddy(&free, 0),
         0 => buddy(&free, k),
         2 => tree(&free, k),
@@ -72,6 +74,11 @@ fn ones(count: u32) -> u32 {
 fn buddy(free: &Labels<16>, k: u32) -> Answer {
     let alpha = free.first_block(k).ok_or(1u32 << (10 - k))?;
     Ok(Found { low: alpha << k, stars: ones(k), tried: alpha + 1 })
+}
+
+fn best_fit(free: Labels<16>, k: u32) -> Answer {
+    let (tried, best) = free.best_fit(k);
+    Ok(Found { low: best.ok_or(tried)?, stars: ones(k), tried })
 }
 
 fn tree(free: &Labels<16>, k: u32) -> Answer {
@@ -182,7 +189,7 @@ mod tests {
         for odds in [1, 2, 3, 4, 6, 10, 20, 50, 100, 200, 500, 1000, 5000] {
             for _ in 0..20 {
                 let record = record(&mut rng, odds);
-                for (k, strategy) in (0..=10).flat_map(|k| [0, 2, 3].map(|s| (k, s))) {
+                for (k, strategy) in (0..=10).flat_map(|k| [0, 2, 3, 4].map(|s| (k, s))) {
                     assert!(answers(record, &request(7, k, strategy)));
                     grown += u32::from(answers(record, &grow(256, k, strategy)));
                 }

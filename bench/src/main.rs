@@ -1,6 +1,6 @@
-//! The proved calls and the log program beside the second program, and requests
-//! and growths beside the bit-parallel limit: times in one run, and their
-//! ratios.
+//! The proved calls and the log program beside the second program, requests and
+//! growths beside the bit-parallel limit, and best fit beside buddy: times in one
+//! run, and their ratios.
 //! `bench/run` builds what this needs and runs it.
 
 mod logs;
@@ -44,6 +44,7 @@ fn lines(rows: &[Row]) -> Vec<Line> {
     let times = time::times(rows, programs, in_doubt);
     let line = |(row, times): (&Row, &Times)| Line {
         name: row.to_string(),
+        asked: row.asked(),
         unit: "ns",
         refused: row.after(programs(row)[0]).iter().any(|after| after.0 != 0),
         took: times.of_calls(),
@@ -57,7 +58,7 @@ fn log_lines(programs: [&Path; 2]) -> std::io::Result<Vec<Line>> {
     let line = |n: u64| {
         let took = logs::time(22 + n, 1_000_000, programs)?.map(|s| s * 1000.0).to_vec();
         let (name, second) = (format!("log program, n {n}"), took[0] / took[1]);
-        Ok(Line { name, unit: "ms", refused: false, took, second })
+        Ok(Line { name, asked: None, unit: "ms", refused: false, took, second })
     };
     [4, 7, 10].into_iter().map(line).collect()
 }
@@ -85,6 +86,7 @@ fn main() -> std::io::Result<()> {
         table::part(&part.title, &lines);
         all.extend(lines);
     }
+    table::beside_buddy(&all, options.all);
     table::summary(&all);
     Ok(())
 }

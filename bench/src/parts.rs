@@ -2,7 +2,7 @@
 
 use crate::options::Options;
 use crate::rows::{self, Row};
-use crate::{growths, loads, patterns, relabels, stars};
+use crate::{drawn, growths, loads, patterns, relabels, stars};
 
 /// Rows with a title, and whether each of them is of interest by itself.
 pub struct Part {
@@ -19,6 +19,7 @@ fn calls() -> Vec<Part> {
     let part = |title: &str, rows| Part { title: title.to_string(), rows, each: true };
     vec![
         part("each call", SOME.into_iter().flat_map(rows::calls).collect()),
+        part("on drawn cubes", SOME.into_iter().flat_map(drawn::rows).collect()),
         part("each growth", SOME.into_iter().flat_map(each_growth).collect()),
         part("relabel by what isn't good", SOME.into_iter().flat_map(relabels::rows).collect()),
         part("on a relabelled cube", SOME.into_iter().map(rows::relabelled).collect()),

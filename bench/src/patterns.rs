@@ -5,7 +5,7 @@
 use crate::rows::{Record, Row};
 use cube_proved::frame::{release, request};
 use cube_proved::STRATEGIES;
-use cube_reference::family::{family, Subcube};
+use cube_reference::family::{family, Subcube, BEST_FIT, BUDDY};
 use cube_reference::record::{holder, set_condition, set_holder, set_map, set_stars, FAULTY, GOOD};
 use cube_reference::rng::Rng;
 use cube_reference::session::fresh;
@@ -43,7 +43,8 @@ const fn pattern(name: &'static str, other: Other, free: fn(&Request, u32) -> bo
 
 impl Request<'_> {
     pub fn new(n: u32, k: u32, strategy: usize, used: &Record) -> Request<'_> {
-        let last = *family(strategy as u8, n, k).last().expect("no family is empty");
+        let of = if strategy as u8 == BEST_FIT { BUDDY } else { strategy as u8 };
+        let last = *family(of, n, k).last().expect("no family is empty");
         Request { n, k, last, used }
     }
 
@@ -55,6 +56,21 @@ impl Request<'_> {
     /// Whether a label is in the upper half.
     fn upper(&self, x: u32) -> bool {
         x >= 1 << self.n >> 1
+    }
+
+    /// In which eighth it is, counted from 0.
+    fn eighth(&self, x: u32) -> u32 {
+        (8 * x) >> self.n
+    }
+
+    /// Whether it is in the last of the blocks of 2^k labels.
+    fn in_last_block(&self, x: u32) -> bool {
+        x >> self.k == ones(self.n - self.k)
+    }
+
+    /// Whether it is in the last four of them.
+    fn in_last_four(&self, x: u32) -> bool {
+        self.n > self.k + 2 && x >> (self.k + 2) == ones(self.n - self.k - 2)
     }
 
     /// Whether it is in the family's last member.
@@ -154,6 +170,28 @@ pub const MIXED: [Pattern; 9] = [
     pattern("half held, by a session", Held, |r, x| holder(r.used, x) == 0),
 ];
 
+/// By the sizes of the free blocks that are in no larger one: as many as there
+/// can be; the one that best fit takes is the last, behind larger ones or
+/// smaller ones; or all sizes, the small ones first or last.
+pub const SIZES: [Pattern; 8] = [
+    pattern("every other bad, from 0", Silent, |_, x| x % 2 == 1),
+    pattern("every other bad, from 1", Faulty, |_, x| x.is_multiple_of(2)),
+    pattern("blocks of 2^(k+1), the last of 2^k", Silent, |r, x| {
+        r.in_last_block(x) || (x >> (r.k + 1)).is_multiple_of(2) && !r.in_last_four(x)
+    }),
+    pattern("blocks of 2^(k-1), the last of 2^k", Silent, |r, x| {
+        r.in_last_block(x) || (x >> r.low()).is_multiple_of(2)
+    }),
+    pattern("blocks of 2^(k+1), the first of 2^k", Faulty, |r, x| {
+        (x >> (r.k + 1)).is_multiple_of(2) && x >> r.k != 1
+    }),
+    pattern("blocks of 1 to 128, half bad", Faulty, |r, x| chosen(x >> r.eighth(x), 50)),
+    pattern("blocks of 128 to 1, half bad", Faulty, |r, x| chosen(x >> (7 - r.eighth(x)), 50)),
+    pattern("blocks of 128 to 1, half held", Held, |r, x| {
+        chosen(x >> (7 - r.eighth(x)).max(1), 50)
+    }),
+];
+
 /// A record with the labels of a pattern free; a held one has the job and the
 /// star bits of its pair of neighbours.
 pub fn record(request: &Request, pattern: &Pattern, map: &Map) -> Record {
@@ -207,19 +245,18 @@ fn titled(n: u32, patterns: Vec<Pattern>, map: Map) -> impl Iterator<Item = (Str
 
 /// Every pattern, on a cube as it was set up.
 pub fn plain(n: u32) -> impl Iterator<Item = (String, Vec<Row>)> {
-    titled(n, [&SILENT[..], &WEIGHTS, &BLOCKS, &LATE, &MIXED].concat(), IDENTITY)
+    titled(n, [&SILENT[..], &WEIGHTS, &BLOCKS, &LATE, &MIXED, &SIZES].concat(), IDENTITY)
 }
 
 /// Some of each sort, with every other direction mapped to the lower ones.
 pub fn relabelled(n: u32) -> impl Iterator<Item = (String, Vec<Row>)> {
     let (map, _) = relabel(n, [0, 0x2aa % (1 << n)]);
     let some = [SILENT[3], WEIGHTS[0], WEIGHTS[3], BLOCKS[2], LATE[4], MIXED[3], MIXED[8]];
-    titled(n, some.to_vec(), map)
+    titled(n, [&some[..], &SIZES[1..3], &SIZES[6..7]].concat(), map)
 }
 
 /// Some of each sort, on a smaller cube.
 pub fn small(n: u32) -> impl Iterator<Item = (String, Vec<Row>)> {
-    let some =
-        [&SILENT[..], &WEIGHTS, &BLOCKS[1..], &LATE[5..], &MIXED[2..4], &MIXED[7..]].concat();
-    titled(n, some, IDENTITY)
+    let some = [&SILENT[..], &WEIGHTS, &BLOCKS[1..], &LATE[5..], &MIXED[2..4], &MIXED[7..], &SIZES];
+    titled(n, some.concat(), IDENTITY)
 }

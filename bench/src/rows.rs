@@ -19,10 +19,21 @@ pub struct Row {
     pub call: Vec<u8>,
 }
 
+/// A strategy, and what is asked by it.
+pub type Asked = (usize, String);
+
 /// Number, reply and record after a call.
 pub type After = (u32, [u8; 12], Record);
 
 impl Row {
+    /// The strategy of a request or a growth, and what tells it from the others
+    /// of that strategy: its name up to the strategy's, k and n.
+    pub fn asked(&self) -> Option<Asked> {
+        let strategy = usize::from(*self.call.get(7)?);
+        let (before, _) = self.name.split_once(STRATEGIES.get(strategy)?)?;
+        Some((strategy, format!("{before}k {}, n {}", self.call[6], self.n)))
+    }
+
     /// Whether it is the loading call that is timed.
     pub fn is_load(&self) -> bool {
         self.call.is_empty()
@@ -124,6 +135,7 @@ pub fn grown(n: u32) -> Vec<Row> {
         "report good",
         "relabel",
         "request granted, buddy",
+        "request granted, best fit",
         "growth granted, buddy",
         "release, buddy",
     ];

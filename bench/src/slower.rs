@@ -75,12 +75,16 @@ fn answered_alike(row: &Row) -> bool {
     builds(row).is_some_and(|[newer, older]| row.after(newer) == row.after(older))
 }
 
+/// How many rows of a part that are answered differently are named one by one.
+const NAMED: usize = 3;
+
 /// The rows of a part that both builds answer alike, and how many there are
-/// besides; these are not timed, and named one by one unless they are all.
+/// besides; these are not timed, and named one by one if they are few.
 fn by_answer(part: Part) -> (Vec<Row>, usize) {
+    let rows = part.rows.len();
     let (same, others): (Vec<_>, Vec<_>) = part.rows.into_iter().partition(answered_alike);
-    if same.is_empty() {
-        println!("{:74} answered differently, {} rows", part.title, others.len());
+    if others.len() > NAMED {
+        println!("{:74} answered differently, {} of {rows} rows", part.title, others.len());
     } else {
         others.iter().for_each(|row| println!("{row:74} answered differently"));
     }

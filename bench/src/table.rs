@@ -1,10 +1,15 @@
-//! What is printed: rows, a line for each part, and what all rows show.
+//! What is printed: rows, a line for each part, best fit beside buddy, and what
+//! all rows show.
+
+use cube_bench::rows::Asked;
+use std::collections::HashMap;
 
 /// A row's name and what its call took by the library, by the second program
 /// and, where it answers, by the limit; and the library's time by the second
 /// program's in the middle one of the rounds.
 pub struct Line {
     pub name: String,
+    pub asked: Option<Asked>,
     pub unit: &'static str,
     pub refused: bool,
     pub took: Vec<f64>,
@@ -25,7 +30,15 @@ const LIMIT: Anchor = Anchor { program: 2, name: "limit", goal: 10.0 };
 /// How many rows above a goal are named.
 const SHOWN: usize = 20;
 
+/// The strategies that have buddy's family.
+const BUDDY: usize = 0;
+const BEST_FIT: usize = 4;
+
 impl Line {
+    fn is_by(&self, strategy: usize) -> bool {
+        self.asked.as_ref().is_some_and(|asked| asked.0 == strategy)
+    }
+
     fn ratio(&self, anchor: &Anchor) -> Option<f64> {
         match anchor.program {
             1 => Some(self.second),
@@ -95,6 +108,46 @@ fn anchored(what: &str, anchor: &Anchor, lines: &[&Line]) {
     }
 }
 
+/// What is asked by best fit, with the library's times for it and for the same
+/// by buddy, by their ratio, the highest first.
+fn pairs(lines: &[Line]) -> Vec<(&str, f64, f64)> {
+    let buddy = lines.iter().filter(|line| line.is_by(BUDDY));
+    let buddy: HashMap<_, _> =
+        buddy.filter_map(|line| Some((&line.asked.as_ref()?.1, line.took[0]))).collect();
+    let best_fit = lines.iter().filter(|line| line.is_by(BEST_FIT));
+    let mut pairs: Vec<(&str, f64, f64)> = best_fit
+        .filter_map(|line| Some((&line.asked.as_ref()?.1, line.took[0])))
+        .filter_map(|(asked, took)| Some((&asked[..], took, *buddy.get(asked)?)))
+        .collect();
+    pairs.sort_by(|a, b| (b.1 / b.2).total_cmp(&(a.1 / a.2)));
+    pairs
+}
+
+/// Best fit beside buddy: the same asked of the same cube, but where the cube is
+/// one that the strategy itself has used. Some of the highest, or all.
+pub fn beside_buddy(lines: &[Line], all: bool) {
+    let pairs = pairs(lines);
+    if pairs.is_empty() {
+        return;
+    }
+    println!("\n{:74} {:>11} {:>9} {:>6}", "best fit beside buddy", "best fit", "buddy", "ratio");
+    for (asked, best_fit, buddy) in &pairs[..if all { pairs.len() } else { SHOWN.min(pairs.len()) }]
+    {
+        println!("{asked:74} {best_fit:>8.0} ns {buddy:>9.0} {:>6.2}", best_fit / buddy);
+    }
+    for n in [4, 7, 10] {
+        let end = format!(", n {n}");
+        let of_n = || pairs.iter().filter(|pair| pair.0.ends_with(&end));
+        let ratios: Vec<_> = of_n().map(|(_, best_fit, buddy)| best_fit / buddy).collect();
+        let longest = of_n().map(|pair| pair.1).fold(0.0, f64::max);
+        if let Some(highest) = ratios.first() {
+            let median = ratios[ratios.len() / 2];
+            print!("best fit / buddy, n {n}: {} rows, highest {highest:.2}", ratios.len());
+            println!(", median {median:.2}; best fit takes at most {longest:.0} ns");
+        }
+    }
+}
+
 /// What all rows show.
 pub fn summary(lines: &[Line]) {
     let (refused, others): (Vec<_>, Vec<_>) = lines.iter().partition(|line| line.refused);
@@ -106,4 +159,6 @@ pub fn summary(lines: &[Line]) {
     }
     anchored("refusals", &LIMIT, &refused);
     anchored("grants", &LIMIT, &others);
+    let best_fit: Vec<_> = lines.iter().filter(|line| line.is_by(BEST_FIT)).collect();
+    [SECOND, LIMIT].iter().for_each(|anchor| anchored("best fit", anchor, &best_fit));
 }

@@ -30,6 +30,31 @@ impl Labels<16> {
         labels
     }
 
+    /// The blocks of 2^d labels, d from 0, that are free and in no larger such
+    /// block: how many they are, and the lowest label of the first among the
+    /// smallest with d at least k.
+    pub fn best_fit(mut self, k: u32) -> (u32, Option<u32>) {
+        let (mut any, mut best) = ([0; 16], None);
+        for i in 0..6 {
+            let maximal = self.join(i);
+            any.iter_mut().zip(maximal.0).for_each(|(any, word)| *any |= word);
+            if i >= k {
+                best = best.or_else(|| maximal.first());
+            }
+        }
+        let mut count = any.iter().map(|word| word.count_ones()).sum();
+        let mut words = Labels([(0..16).fold(0, |all, w| all | (self.0[w] & 1) << w)]);
+        for i in 0..4 {
+            let maximal = words.join(i);
+            count += maximal.0[0].count_ones();
+            if i + 6 >= k {
+                best = best.or_else(|| Some(64 * maximal.first()?));
+            }
+        }
+        count += words.0[0].count_ones();
+        (count, best.or_else(|| words.first()))
+    }
+
     /// From nodes to labels: digit i goes to the place that the map gives it.
     fn move_digits(&mut self, mut map: [u8; 10]) {
         for i in 0..10 {
@@ -76,6 +101,14 @@ impl<const L: usize> Labels<L> {
     /// Both halves across the highest digit, H being half of L.
     pub fn halves<const H: usize>(&self) -> Labels<H> {
         Labels(from_fn(|w| self.0[w] & self.0[w + H]))
+    }
+
+    /// From the free blocks of 2^i labels, i below 6, to those of 2^(i+1), each
+    /// with the flag of its lowest label: those that are in none of these.
+    fn join(&mut self, i: u32) -> Labels<L> {
+        let blocks = self.0;
+        self.0 = blocks.map(|w| w & w >> (1 << i) & ZERO_DIGIT[i as usize]);
+        Labels(from_fn(|w| blocks[w] & !(self.0[w] | self.0[w] << (1 << i))))
     }
 
     /// Which words are all free, as one word.

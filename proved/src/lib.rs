@@ -4,7 +4,7 @@
 pub mod frame;
 
 /// The strategies' names, by number.
-pub const STRATEGIES: [&str; 4] = ["buddy", "Gray", "tree", "extended"];
+pub const STRATEGIES: [&str; 5] = ["buddy", "Gray", "tree", "extended", "best fit"];
 
 extern "C" {
     fn cube_setup(record: *mut u8, record_len: usize, n: u32) -> u32;
