@@ -9,6 +9,9 @@ use crate::simulate::Allocate;
 /// Lowest node and star bits.
 pub type Subcube = (u16, u16);
 
+/// The frame by which a job asks for dimension k by a strategy.
+pub type Asking = fn(job: u16, k: u8, strategy: u8) -> Vec<u8>;
+
 /// A refusal that the simulation never causes ends the program.
 #[derive(Clone)]
 pub struct Cube {
@@ -32,16 +35,22 @@ impl Cube {
         cube
     }
 
-    /// What a request or a growth, whose frames `asking` makes, is granted.
-    pub fn ask(&mut self, asking: fn(u16, u8, u8) -> Vec<u8>, job: u16, k: u8) -> Option<Subcube> {
+    /// What a request or a growth, whose frames `asking` makes, is granted, and
+    /// how many were tried.
+    pub fn answer(&mut self, asking: Asking, job: u16, k: u8) -> (Option<Subcube>, u16) {
         match self.call(&asking(job, k, self.strategy)) {
-            Reply::Granted { job: got, lowest, stars, .. } => {
+            Reply::Granted { job: got, lowest, stars, tried } => {
                 assert_eq!((got, stars.count_ones()), (job, k.into()));
-                Some((lowest, stars))
+                (Some((lowest, stars)), tried)
             }
-            Reply::Refused { number: 14, .. } => None,
+            Reply::Refused { number: 14, tried } => (None, tried),
             other => panic!("job {job} asked for {k} and was answered {other:?}"),
         }
+    }
+
+    /// What it is granted.
+    pub fn ask(&mut self, asking: Asking, job: u16, k: u8) -> Option<Subcube> {
+        self.answer(asking, job, k).0
     }
 
     fn done(&mut self, frame: &[u8]) -> u32 {

@@ -9,7 +9,7 @@ use cube_reference::rng::Rng;
 
 use crate::cube::{Cube, Subcube};
 use crate::simulate::{exponential, job, Allocate, BETWEEN};
-use crate::study::{faulty, mean, on_all_processors, Case};
+use crate::study::{faulty, mean, on_all_processors, strategies, Case};
 
 #[derive(Clone, Copy, PartialEq, Eq, Hash)]
 pub enum Way {
@@ -82,7 +82,7 @@ struct Run {
 
 /// All ways of all strategies in some cases.
 pub fn results(cases: &[Case]) -> Results {
-    let strategies = |&case| (0..4).map(move |strategy| (strategy, case));
+    let strategies = |&case| strategies().map(move |strategy| (strategy, case));
     let ways = |(strategy, case)| WAYS.map(|way| Cell { strategy, case, way });
     let cells: Vec<Cell> = cases.iter().flat_map(strategies).flat_map(ways).collect();
     on_all_processors(&cells, estimate)

@@ -7,7 +7,7 @@ use crate::tables::{granted, name, utilization, Measure};
 pub const N: u32 = 10;
 pub const RESIDENCES: [u32; 5] = [10, 20, 40, 80, 160];
 
-const COLOURS: [&str; 4] = ["#0072b2", "#d55e00", "#009e73", "#aa4499"];
+const COLOURS: [&str; 5] = ["#0072b2", "#d55e00", "#009e73", "#aa4499", "#e69f00"];
 const WIDTH: f64 = 400.0;
 const HEIGHT: f64 = 300.0;
 const TOP: f64 = 50.0;
@@ -115,23 +115,21 @@ fn disc(x: f64, y: f64) -> String {
     format!("<circle cx=\"{x:.1}\" cy=\"{y:.1}\" r=\"4\"/>\n")
 }
 
-/// A column for each strategy, without and with relabelling, and one for the
+/// A column for each strategy, without and with relabelling, and below them the
 /// paper's figures.
 fn legend(managers: &[Manager]) -> String {
-    let top = TOP + HEIGHT + 70.0;
-    let at = |i: usize| (40.0 + 184.0 * (i / 2) as f64, top + 22.0 * (i % 2) as f64);
+    let (top, column) = (TOP + HEIGHT + 66.0, |i: usize| 40.0 + 184.0 * i as f64);
     let entries = managers.iter().enumerate().map(|(i, &manager)| {
-        let (x, y) = at(i);
+        let (x, y) = (column(i / 2), top + 22.0 * (i % 2) as f64);
         let line = format!("<path d=\"M{x:.1} {y:.1}h30\" {}/>\n", style(manager));
         line + &label(x + 36.0, y + 4.0, "start", &name(manager))
     });
-    let (x, y) = at(managers.len());
-    let entries: String = entries.collect();
-    entries
-        + &square(x + 10.0, y)
-        + &label(x + 24.0, y + 4.0, "start", "paper, Algorithm 1")
-        + &disc(x + 10.0, y + 22.0)
-        + &label(x + 24.0, y + 26.0, "start", "paper, Algorithm 2")
+    let ([first, second], y) = ([0, 1].map(column), top + 44.0);
+    entries.collect::<String>()
+        + &square(first + 15.0, y)
+        + &label(first + 36.0, y + 4.0, "start", "paper, Algorithm 1")
+        + &disc(second + 15.0, y)
+        + &label(second + 36.0, y + 4.0, "start", "paper, Algorithm 2")
 }
 
 pub fn plot(results: &Results, managers: &[Manager]) -> String {

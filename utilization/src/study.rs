@@ -6,10 +6,11 @@ use std::sync::atomic::{AtomicUsize, Ordering};
 use std::sync::Mutex;
 use std::thread;
 
+use cube_proved::STRATEGIES;
 use cube_reference::rng::Rng;
 
 use crate::cube::Cube;
-use crate::lists::Lists;
+use crate::lists::{Lists, Take};
 use crate::simulate::{run, Allocate, Load, Measures};
 
 #[derive(Clone, Copy, PartialEq, Eq, Hash)]
@@ -23,12 +24,20 @@ pub enum Manager {
 /// Algorithm 1 of document 003.
 pub const BUDDY: Manager = Manager::Proved { strategy: 0, relabel: false };
 pub const BUDDY_RELABELLED: Manager = Manager::Proved { strategy: 0, relabel: true };
+pub const BEST_FIT: Manager = Manager::Proved { strategy: 4, relabel: false };
+/// Algorithm 2, but for which of the smallest subcubes is taken.
+pub const BEST_FIT_RELABELLED: Manager = Manager::Proved { strategy: 4, relabel: true };
 
-/// Every manager: the four strategies without and with relabelling, and
-/// Algorithm 2 as printed.
+/// The strategies' numbers.
+pub fn strategies() -> impl Iterator<Item = u8> {
+    0..STRATEGIES.len() as u8
+}
+
+/// Every manager: the strategies without and with relabelling, and Algorithm 2
+/// as printed.
 pub fn managers() -> Vec<Manager> {
-    let proved = (0..8).map(|i| Manager::Proved { strategy: i / 2, relabel: i % 2 == 1 });
-    proved.chain([Manager::Printed]).collect()
+    let both = |strategy| [false, true].map(|relabel| Manager::Proved { strategy, relabel });
+    strategies().flat_map(both).chain([Manager::Printed]).collect()
 }
 
 #[derive(Clone, Copy, PartialEq, Eq, Hash)]
@@ -97,7 +106,7 @@ pub fn once((manager, case): Cell, seed: u64) -> Measures {
     let load = Load { largest: case.largest, residence: case.residence, arrivals };
     let allocator: &mut dyn Allocate = match manager {
         Manager::Proved { strategy, relabel } => &mut Cube::new(case.n, &faulty, strategy, relabel),
-        Manager::Printed => &mut Lists::new(case.n, &faulty),
+        Manager::Printed => &mut Lists::new(case.n, &faulty, Take::Head),
     };
     run(allocator, case.n, good, load, seed)
 }

@@ -5,7 +5,8 @@ use cube_proved::STRATEGIES;
 use crate::growth::{self, WAYS};
 use crate::paper::{self, SIZES};
 use crate::simulate::{Measures, BETWEEN};
-use crate::study::{mean, once, Case, Faults, Manager, Results, BUDDY, BUDDY_RELABELLED};
+use crate::study::{mean, once, strategies, Case, Faults, Manager, Results};
+use crate::study::{BEST_FIT, BEST_FIT_RELABELLED, BUDDY, BUDDY_RELABELLED};
 
 /// One of the two measures.
 pub type Measure = fn(Measures) -> f64;
@@ -44,13 +45,20 @@ pub fn average() -> Columns {
     Columns { heads, cases }
 }
 
-/// The managers that stand beside the paper's two algorithms, and which of the
-/// two each is.
-pub const BESIDE: [(Manager, &str, usize); 3] = [
-    (BUDDY, "buddy (Algorithm 1)", 0),
-    (Manager::Printed, "Algorithm 2 as printed", 1),
-    (BUDDY_RELABELLED, "buddy relabelled", 1),
+/// A manager that stands beside the paper's, its name, and which of the paper's
+/// two algorithms it is; for the lists without relabelling there are no figures.
+type Beside = (Manager, &'static str, Option<usize>);
+
+pub const BESIDE: [Beside; 5] = [
+    (BUDDY, "buddy (Algorithm 1)", Some(0)),
+    (BEST_FIT, "best fit", None),
+    (BEST_FIT_RELABELLED, "best fit relabelled (Algorithm 2)", Some(1)),
+    (Manager::Printed, "Algorithm 2 as printed", Some(1)),
+    (BUDDY_RELABELLED, "buddy relabelled", Some(1)),
 ];
+
+/// The strategies that have tables of their own: all but buddy and best fit.
+const OTHERS: std::ops::Range<u8> = 1..4;
 
 /// The cube sizes of the table of growths.
 const GROWTH_SIZES: [u32; 2] = [5, 10];
@@ -85,12 +93,12 @@ fn beside_row(
     columns: &Columns,
     n: u32,
     figures: &[&[f64]; 2],
-    (manager, name, algorithm): (Manager, &str, usize),
+    (manager, name, algorithm): Beside,
 ) -> String {
-    let cases = (columns.cases)(n);
-    let pairs = cases.iter().zip(figures[algorithm]).flat_map(|(&case, figure)| {
+    let pairs = (columns.cases)(n).into_iter().enumerate().flat_map(|(column, case)| {
         let ours = measure(results[&(manager, case)].mean);
-        [format!("{figure:.2}"), format!("{ours:.2}")]
+        let figure = algorithm.map(|algorithm| format!("{:.2}", figures[algorithm][column]));
+        [figure.unwrap_or("-".to_string()), format!("{ours:.2}")]
     });
     line([n.to_string(), name.to_string()].into_iter().chain(pairs))
 }
@@ -99,7 +107,7 @@ fn beside_row(
 pub fn others(results: &Results, measure: Measure, columns: &Columns) -> String {
     let words = ["n".to_string(), "strategy".to_string()].into_iter();
     let mut text = head(words.chain(columns.heads.clone()).collect());
-    for (n, strategy) in SIZES.flat_map(|n| (1..4).map(move |strategy| (n, strategy))) {
+    for (n, strategy) in SIZES.flat_map(|n| OTHERS.map(move |strategy| (n, strategy))) {
         let cells = (columns.cases)(n).into_iter().map(|case| {
             let ours =
                 |relabel| measure(results[&(Manager::Proved { strategy, relabel }, case)].mean);
@@ -127,6 +135,7 @@ pub fn differences(results: &Results) -> String {
     let heads = ["manager", "R, sizes 0 to n", "R, 0 to n - 1", "U, sizes 0 to n", "U, 0 to n - 1"];
     let mut text = head(heads.map(String::from).to_vec());
     for (manager, name, algorithm) in BESIDE {
+        let Some(algorithm) = algorithm else { continue };
         let cell = |measure: Measure, table, sizes: fn(Case) -> Case| {
             difference(results, (manager, algorithm), measure, table, sizes)
         };
@@ -156,6 +165,35 @@ fn difference(
         .collect();
     let square = mean(apart.iter().map(|x| x * x).collect()).0.sqrt();
     format!("{:+.2} ({square:.2})", mean(apart).0)
+}
+
+/// Best fit less buddy, each without and with relabelling: R and U.
+pub fn best_fit(results: &Results, columns: &Columns) -> String {
+    let words = ["n".to_string(), "relabelled".to_string()].into_iter();
+    let mut text = head(words.chain(columns.heads.clone()).collect());
+    let pairs = [("no", BEST_FIT, BUDDY), ("yes", BEST_FIT_RELABELLED, BUDDY_RELABELLED)];
+    for (n, (relabelled, best, first)) in SIZES.flat_map(|n| pairs.map(|pair| (n, pair))) {
+        let cells = (columns.cases)(n).into_iter().map(|case| {
+            let [best, first] = [best, first].map(|manager| results[&(manager, case)].mean);
+            let apart = |measure: Measure| measure(best) - measure(first);
+            format!("{:+.2} / {:+.2}", apart(granted), apart(utilization))
+        });
+        text += &line([n.to_string(), relabelled.to_string()].into_iter().chain(cells));
+    }
+    text
+}
+
+/// How far best fit relabelled is from Algorithm 2 as printed in the cells of a
+/// table: the lowest and the highest difference.
+pub fn from_printed(results: &Results, measure: Measure, columns: &Columns) -> String {
+    let apart = |case| {
+        let [ours, printed] = [BEST_FIT_RELABELLED, Manager::Printed]
+            .map(|manager| measure(results[&(manager, case)].mean));
+        ours - printed
+    };
+    let mut apart: Vec<f64> = SIZES.flat_map(columns.cases).map(apart).collect();
+    apart.sort_by(f64::total_cmp);
+    format!("{:+.2} to {:+.2}", apart[0], apart[apart.len() - 1])
 }
 
 /// Algorithm 1 at mean 20, with U if each request up to n - 2 were granted: a
@@ -200,7 +238,7 @@ pub fn growth_cases() -> Vec<Case> {
 pub fn growths(results: &growth::Results) -> String {
     let words = ["n".to_string(), "strategy".to_string()].into_iter();
     let mut text = head(words.chain(extreme().heads).collect());
-    for (n, strategy) in GROWTH_SIZES.into_iter().flat_map(|n| (0..4).map(move |s| (n, s))) {
+    for (n, strategy) in GROWTH_SIZES.into_iter().flat_map(|n| strategies().map(move |s| (n, s))) {
         let cells = (extreme().cases)(n).into_iter().map(|case| {
             let of = |way| results[&growth::Cell { strategy, case, way }].mean.granted;
             WAYS.map(|way| format!("{:.2}", of(way))).join(" / ")
