@@ -30,17 +30,27 @@
  *   grow      0x0204, length 8:  job, k (one byte), strategy (one byte)
  *
  * Replies: length, kind, then
- *   granted   0x8001, length 12: job, lowest node, star bits, members tried
- *   refused   0x8002, length 8:  number, members tried (0 unless number is 14)
+ *   granted   0x8001, length 12: job, lowest node, star bits, tried
+ *   refused   0x8002, length 8:  number, tried (0 unless number is 14)
  *   done      0x8003, length 6:  for a fault the holder, for a release the
  *                                nodes given back, for a relabel the size of
  *                                D, else 0
  * Reply bytes past the frame keep their values.
  *
+ * Strategies, which have names below:
+ *   0 buddy   1 Gray   2 tree   3 extended   4 best fit
+ * From 0 to 3 the job gets the first free member of the strategy's family;
+ * tried is its place there from 1, and with 14 the number of members.
+ * Best fit has buddy's family. It looks at the maximal free blocks: the free
+ * buddy members, of any dimension, that are in no larger free one. Of those of
+ * dimension k or more it takes the smallest, of these the one with the lowest
+ * label, and grants that block's lowest part. Tried is the number of maximal
+ * free blocks, granted or not; with 14 it is 0 if no node is free.
+ *
  * A growth asks for a larger subcube for a job that holds nodes. To it the
- * job's own good nodes count as free. The job gets the first free member of
- * the strategy's family and loses its nodes outside that member, faulty ones
- * too. A refused growth leaves it its nodes.
+ * job's own good nodes count as free, also in best fit's blocks. The job gets
+ * what the strategy gives and loses its nodes outside that, faulty ones too. A
+ * refused growth leaves it its nodes.
  *
  * A relabel makes the map from D, the directions in which any two nodes below
  * 2^n that aren't good differ. A node that never reported, or was repaired and
@@ -59,7 +69,7 @@
  *    6  job 0
  *    7  k above n (set-up: n above 10)
  *    8  node not below 2^n
- *    9  strategy above 3
+ *    9  strategy above 4 (CUBE_STRATEGIES_END or more)
  *   10  the requesting job holds nodes
  *   11  the releasing or growing job holds none
  *   17  growth: 2^k is not more than the number of nodes that the job holds
@@ -93,6 +103,17 @@ enum {
     CUBE_HOLDERS_AT = 16,
     CUBE_CONDITIONS_AT = 2064,
     CUBE_STARS_AT = 3088,
+};
+
+/* The strategies of a request or a growth. From CUBE_STRATEGIES_END on a number
+ * is refused 9. */
+enum {
+    CUBE_BUDDY = 0,
+    CUBE_GRAY = 1,
+    CUBE_TREE = 2,
+    CUBE_EXTENDED = 3,
+    CUBE_BEST_FIT = 4,
+    CUBE_STRATEGIES_END,
 };
 
 #ifdef __cplusplus
