@@ -9,6 +9,9 @@ use crate::section::{fields_end, Guide, Outcome, Section};
 const FRAMES: [&str; 7] = ["call", "kind", "length", "field at 4", "at 6", "at 7", "example"];
 const SESSION: [&str; 5] = ["", "call", "frame", "returned", "reply buffer"];
 
+/// The sessions' sections, the one that examples of records are from first.
+const SESSIONS: [&str; 2] = ["A session in bytes", "A session by best fit"];
+
 fn word(bytes: &[u8], at: usize) -> usize {
     usize::from(bytes[at]) + 256 * usize::from(bytes[at + 1])
 }
@@ -25,7 +28,7 @@ pub fn frames(guide: &Guide, section: &Section) -> Outcome {
     let rows = section.rows(&FRAMES)?;
     let end = fields_end(&section.rows(&["offset", "size", "field"])?)?;
     ensure(end == 4, || format!("a kind's fields start at {end}"))?;
-    let n = session_dimension(guide)?;
+    let n = session_dimension(&guide.section(SESSIONS[0])?)?;
     let call = |frame: &[u8]| Cube::fresh(n).call(frame, 12).0;
     for (line, cells) in &rows {
         let frame = bytes(&cells[6])?;
@@ -66,8 +69,8 @@ fn fields(frame: &[u8], text: &str) -> Result<Vec<usize>, String> {
     })
 }
 
-/// Lengths and kinds of the three replies are those of the session's replies,
-/// and each example is the reply to one of its calls.
+/// Lengths and kinds of the three replies are those of the sessions' replies,
+/// and each example is the reply to one of their calls.
 pub fn replies(guide: &Guide, section: &Section) -> Outcome {
     let shown = section.rows(&["offset", "size", "granted", "refused", "done"])?;
     let end = fields_end(&shown)?;
@@ -93,14 +96,14 @@ pub fn replies(guide: &Guide, section: &Section) -> Outcome {
         let said = bytes(&cells[1])?;
         ensure(
             replies.iter().any(|reply| reply.starts_with(&said) && said.len() == word(reply, 0)),
-            || format!("line {line}: no call of the session is replied so"),
+            || format!("line {line}: no call of a session is replied so"),
         )?;
     }
     Ok(heads.len() + rows.len())
 }
 
-fn session_dimension(guide: &Guide) -> Result<usize, String> {
-    after(guide.section("A session in bytes")?.line_with("fresh cube of")?, "n = ")
+fn session_dimension(section: &Section) -> Result<usize, String> {
+    after(section.line_with("fresh cube of")?, "n = ")
 }
 
 /// A call of the session was made: the record and the reply buffer afterwards.
@@ -109,12 +112,11 @@ struct Done {
     reply: Vec<u8>,
 }
 
-/// The session's rows, held to the library one after the other: number, reply
+/// A session's rows, held to the library one after the other: number, reply
 /// buffer, and the frame that the call's words say.
-fn run(guide: &Guide) -> Result<Vec<Done>, String> {
-    let section = guide.section("A session in bytes")?;
+fn run(guide: &Guide, section: &Section) -> Result<Vec<Done>, String> {
     let kinds = guide.section("Frames")?.rows(&FRAMES)?;
-    let mut cube = Cube::fresh(session_dimension(guide)?);
+    let mut cube = Cube::fresh(session_dimension(section)?);
     let mut done = Vec::new();
     for (line, cells) in section.rows(&SESSION)? {
         let frame = bytes(&cells[2])?;
@@ -137,21 +139,30 @@ fn run(guide: &Guide) -> Result<Vec<Done>, String> {
 pub fn session(guide: &Guide, section: &Section) -> Outcome {
     let before = byte_strings(section.line_with("Before each call")?);
     ensure(before == [[BEFORE]], || format!("buffers hold {before:02x?}"))?;
-    Ok(run(guide)?.len())
+    Ok(run(guide, section)?.len())
 }
 
 pub fn session_record(guide: &Guide, calls: usize) -> Result<Vec<u8>, String> {
-    let done = run(guide)?;
+    let done = run(guide, &guide.section(SESSIONS[0])?)?;
     let last = calls.checked_sub(1).and_then(|i| done.get(i));
     last.map(|done| done.record.clone()).ok_or(format!("the session has no call {calls}"))
 }
 
-/// The record before the session's first call and after each of its calls.
+/// The record before each session's first call and after each of its calls.
 pub fn session_records(guide: &Guide) -> Result<Vec<Vec<u8>>, String> {
-    let fresh = Cube::fresh(session_dimension(guide)?).record;
-    Ok([fresh].into_iter().chain(run(guide)?.into_iter().map(|done| done.record)).collect())
+    let mut records = Vec::new();
+    for name in SESSIONS {
+        let section = guide.section(name)?;
+        records.push(Cube::fresh(session_dimension(&section)?).record);
+        records.extend(run(guide, &section)?.into_iter().map(|done| done.record));
+    }
+    Ok(records)
 }
 
 fn session_replies(guide: &Guide) -> Result<Vec<Vec<u8>>, String> {
-    Ok(run(guide)?.into_iter().map(|done| done.reply).collect())
+    let mut replies = Vec::new();
+    for name in SESSIONS {
+        replies.extend(run(guide, &guide.section(name)?)?.into_iter().map(|done| done.reply));
+    }
+    Ok(replies)
 }

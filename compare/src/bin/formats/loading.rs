@@ -31,7 +31,7 @@ pub fn is_shown(guide: &Guide, said: &str) -> Result<bool, String> {
 }
 
 /// Each number has a record that shows it, in this order; every record of the
-/// session loads with 0.
+/// sessions loads with 0.
 pub fn numbers(guide: &Guide, section: &Section) -> Outcome {
     let said = section.rows(&["returned", "cause"])?;
     let order: Vec<&str> = said.iter().map(|(_, cells)| cells[0].as_str()).collect();
@@ -41,13 +41,13 @@ pub fn numbers(guide: &Guide, section: &Section) -> Outcome {
     for (line, cells) in &said {
         ensure(is_shown(guide, &cells[0])?, || format!("line {line}: no record shows it"))?;
     }
-    let session = calls::session_records(guide)?;
-    let due = after(section.line_with("each of the session")?, "loads with ")?;
-    for (calls, record) in session.iter().enumerate() {
+    let sessions = calls::session_records(guide)?;
+    let due = after(section.line_with("each of the sessions")?, "loads with ")?;
+    for (place, record) in sessions.iter().enumerate() {
         let got = load(record)?;
-        ensure(got == due, || format!("the session's record after {calls} calls: {got}"))?;
+        ensure(got == due, || format!("the sessions' record {place}, from 0: {got}"))?;
     }
-    Ok(said.len() + session.len())
+    Ok(said.len() + sessions.len())
 }
 
 /// The record of a row.

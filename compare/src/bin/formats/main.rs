@@ -21,7 +21,7 @@ use section::{Guide, Outcome, Section};
 
 type Check = fn(&Guide, &Section) -> Outcome;
 
-const SECTIONS: [(&str, Check); 17] = [
+const SECTIONS: [(&str, Check); 18] = [
     ("Formats", records::little_endian),
     ("The record", records::layout),
     ("Example: a record after two calls", records::after_calls),
@@ -33,6 +33,7 @@ const SECTIONS: [(&str, Check); 17] = [
     ("Frames", calls::frames),
     ("Replies", calls::replies),
     ("A session in bytes", calls::session),
+    ("A session by best fit", calls::session),
     ("Numbers", numbers::in_order),
     ("A smallest call that meets each", numbers::smallest),
     ("'Tried' with 14", numbers::tried),

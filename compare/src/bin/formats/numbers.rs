@@ -1,6 +1,7 @@
 //! The numbers of refusals, 'tried' with 14, and set-up.
 
 use cube_proved as proved;
+use cube_reference::record::{CONDITIONS, GOOD};
 
 use crate::cube::{Cube, BEFORE, HOLDERS, SIZE};
 use crate::formula;
@@ -91,19 +92,23 @@ fn smallest_call(section: &Section, (_, cells): &Row) -> Result<(), String> {
 /// What was tried, of a strategy, n and k.
 type Count = (i64, usize, u16, u16);
 
+/// The strategies that walk their family, which the first table counts.
+const WALKS: usize = 4;
+
 /// Every n, k and strategy on a cube without a good node, by a request and by
-/// a growth: refused 14, with the count that the table's formula gives.
+/// a growth: refused 14, with the count that the table's formula gives; then
+/// best fit.
 pub fn tried(_: &Guide, section: &Section) -> Outcome {
     let rows = section.rows(&["strategy", "k = 0", "k from 1 to n - 1", "k = n, from 1"])?;
     let mut counts: Vec<Count> = Vec::new();
     for (line, cells) in &rows {
         let strategy = number(cells[0].split(' ').next().unwrap_or_default())?;
-        ensure(cells[0].ends_with(proved::STRATEGIES[strategy]), || format!("line {line}: name"))?;
+        named_so(&cells[0], strategy).map_err(|what| format!("line {line}: {what}"))?;
         for n in 0..=10u16 {
             for k in 0..=n {
                 let formula = &cells[if k == 0 { 1 } else { 2 + usize::from(k == n) }];
                 let said = formula::value(formula, n.into(), k.into())?;
-                for got in none_free(n, k, strategy) {
+                for got in asked(n, k, strategy, |_| false) {
                     ensure(got == (14, said), || {
                         format!("line {line}, n {n}, k {k}: number and tried {got:?}, not {said}")
                     })?;
@@ -112,20 +117,54 @@ pub fn tried(_: &Guide, section: &Section) -> Outcome {
             }
         }
     }
-    ensure(rows.len() == 4, || format!("there are {} strategies", rows.len()))?;
+    ensure(rows.len() == WALKS, || format!("there are {} strategies", rows.len()))?;
     largest_count(section, &counts)?;
-    Ok(counts.len())
+    Ok(counts.len() + best_fit_tried(section)?)
+}
+
+fn named_so(cell: &str, strategy: usize) -> Result<(), String> {
+    let name = proved::STRATEGIES.get(strategy);
+    ensure(name.is_some_and(|name| cell.ends_with(name)), || format!("'{cell}' is no strategy"))
+}
+
+/// Best fit on a cube without a good node is refused with tried 0. With every
+/// other node good it tries what the table's formula gives; with k = 0 it is
+/// granted then, and refused with what the formula gives where nothing is.
+fn best_fit_tried(section: &Section) -> Outcome {
+    let rows = section.rows(&["strategy", "k = 0", "k from 1 to n"])?;
+    let [(_, cells)] = rows[..] else { return Err("there isn't one row of best fit".to_string()) };
+    let strategy = number(cells[0].split(' ').next().unwrap_or_default())?;
+    named_so(&cells[0], strategy)?;
+    let mut tried = 0;
+    for (n, k) in (0..=10u16).flat_map(|n| (0..=n).map(move |k| (n, k))) {
+        let formula = |column: usize| formula::value(&cells[column], n.into(), k.into());
+        let most = if n == 0 { 1 } else { formula(2)? };
+        let refused = if k == 0 { formula(1)? } else { 0 };
+        let due = (if k == 0 { 0 } else { 14 }, most);
+        let none = asked(n, k, strategy, |_| false);
+        let half = asked(n, k, strategy, |x| x % 2 == 0);
+        ensure(none.iter().all(|got| *got == (14, refused)), || {
+            format!("best fit, n {n}, k {k}, nothing free: number and tried {none:?}")
+        })?;
+        ensure(half.iter().all(|got| *got == due), || {
+            format!("best fit, n {n}, k {k}, every other free: {half:?}, not {due:?}")
+        })?;
+        tried += none.len() + half.len();
+    }
+    Ok(tried)
 }
 
 /// Number and 'tried' of a request by job 1, and from k = 1 on of its growth when
-/// it holds node 0, on a cube without a good node.
-fn none_free(n: u16, k: u16, strategy: usize) -> Vec<(usize, i64)> {
+/// it holds node 0, on a cube with these nodes good.
+fn asked(n: u16, k: u16, strategy: usize, good: fn(usize) -> bool) -> Vec<(usize, i64)> {
     let fields = [1, 0, k as u8, strategy as u8];
     let call = |kind, holder| {
         let mut cube = Cube::fresh(n.into());
         cube.record[HOLDERS] = holder;
+        (0..1 << n).filter(|x| good(*x)).for_each(|x| cube.record[CONDITIONS + x] = GOOD);
         let (number, reply) = cube.call(&proved::frame::frame(kind, &fields), 12);
-        (number, i64::from(u16::from_le_bytes([reply[6], reply[7]])))
+        let tried = if number == 0 { 10 } else { 6 };
+        (number, i64::from(u16::from_le_bytes([reply[tried], reply[tried + 1]])))
     };
     let growth = (k != 0).then(|| call(0x0204, 1));
     growth.into_iter().chain([call(0x0201, 0)]).collect()
