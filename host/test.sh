@@ -106,6 +106,31 @@ growths() {
     )
 }
 
+# Row 6 of document 01's sessions by best fit, which keeps nodes 0 to 3 whole, and a growth: to job 9 node 5 and nodes 6 and 7 are free.
+best_fit() {
+    local node
+    new_machine "$memory"
+    dimension=3
+    {
+        bytes 06 00 01 03 03 00
+        for node in 00 01 02 03 05 06 07; do bytes 06 00 01 01 $node 00; done
+        bytes 06 00 02 01 04 00
+        bytes 08 00 01 02 07 00 01 04
+        bytes 08 00 01 02 08 00 02 04
+        bytes 08 00 01 02 09 00 00 04
+        bytes 08 00 01 02 0a 00 00 04 # nothing is free
+        bytes 06 00 02 02 07 00
+        bytes 08 00 04 02 09 00 01 04
+        bytes 08 00 01 02 0a 00 00 05 # there is no strategy 5
+    } > "$folder/log"
+    refer
+    run_log
+    tail -n 8 "$folder/printed" | cmp - <(
+        printf '%s\n' '10 granted 7 6 1 3' '11 granted 8 0 3 2' '12 granted 9 5 0 1' '13 refused 14 0' '14 done 2' \
+            '15 granted 9 6 1 2' '16 refused 9 0' 'total 16 setup 1 done 9 granted 4 refused 2'
+    )
+}
+
 # The command of a daemon that will be killed: by a power cut at one of its next 40 steps, or from outside within 50 ms.
 mortal() {
     case $1 in
@@ -245,6 +270,7 @@ echo "host: 3 logs of 20000 frames through the socket, no difference"
 killed_often kill "$disk" 60
 killed_often cut "$memory" 200
 growths
+best_fit
 damaged_files
 other_records
 no_records
@@ -257,4 +283,4 @@ full_disk
 refused_call
 odd_clients
 if command -v valgrind > /dev/null; then watched 15 400; else echo "host: no valgrind here"; fi
-echo "host: growths, damaged files, other records, records that don't load, restarts, refused starts, a full disk and odd clients as expected"
+echo "host: growths, best fit, damaged files, other records, records that don't load, restarts, refused starts, a full disk and odd clients as expected"
