@@ -1,4 +1,6 @@
 // The calls on a state by value.
+#![tactic(auto)]
+
 ghost use Rattle.std.specs.Prelude.{◌≡◌};
 ghost use Rattle.state.specs.Acts.{called};
 

@@ -1,5 +1,7 @@
 // Best fit among buddies, strategy 4. Which members are free is told level by level, each level made of the one below it by pairs. Every pair is
 // looked at, with no branch: that is vector code, and its time hardly goes by what is free.
+#![tactic(auto)]
+
 ghost use Rattle.std.specs.Prelude.{◌≡◌, cond, ◌&&◌, ◌+◌, ◌-◌, ◌*◌, ◌^◌, ◌≤◌, ◌<◌, eqb, leb, length};
 ghost use Rattle.hypercube.specs.Lists.{count_below};
 ghost use Rattle.hypercube.specs.Levels.{joined, lone, free_half};

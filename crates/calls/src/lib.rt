@@ -1,4 +1,6 @@
 // The calls on a record's bytes where they lie.
+#![tactic(auto)]
+
 ghost use Rattle.std.specs.Prelude.{◌≡◌, true};
 ghost use Rattle.state.specs.declared.Call.TheVariants.{Relabel};
 ghost use Rattle.record.specs.Layout.{valid_record};

@@ -1,5 +1,7 @@
 // Set-up, the loading call and the frame call on byte slices, exported for a daemon in C: include/cube.h declares them.
 // A call writes nothing but the record and the reply that it is lent, and keeps nothing.
+#![tactic(auto)]
+
 ghost use Rattle.std.specs.Prelude.{◌≡◌, true};
 ghost use Rattle.record.specs.Layout.{valid_record};
 ghost use Rattle.cube.specs.Called.{delivered, SetUp, Loaded, Called};

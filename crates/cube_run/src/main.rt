@@ -1,5 +1,7 @@
 // The log program: document 01, "Log program". Frames come from standard input, lines and counts go to standard output. Where to read and what to
 // write is log_stream's; here are the buffers and the calls that read and write.
+#![tactic(auto)]
+
 ghost use Rattle.std.specs.Prelude.{◌≡◌, not, ◌&&◌, ◌+◌, ◌<◌, ◌≤◌, ◌^◌, length};
 ghost use Rattle.io.specs.Counts.{clamp_len};
 ghost use Rattle.log_stream.specs.Streams.{took, Ready};

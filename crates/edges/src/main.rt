@@ -1,5 +1,7 @@
 // The edges of document 01, and the causes in pairs: where two rows of the table are met at once, the first wins; then those of relabels, growths,
 // star bits, loading and best fit. Each line has the number returned and the six words of the reply buffer, which held 61166 in each before the call.
+#![tactic(auto)]
+
 mod best_fits;
 mod growth_causes;
 mod growths;

@@ -1,4 +1,6 @@
 // Frames to calls, and replies to frames. Document 01, "Six calls and their frames".
+#![tactic(auto)]
+
 ghost use Rattle.std.specs.Prelude.{◌≡◌, ◌+◌, ◌*◌, ◌≤◌, ◌<◌, length};
 ghost use Rattle.std.proofs.Math.Option.{some};
 ghost use Rattle.history.specs.Calls.{kind_of, size};

@@ -1,4 +1,6 @@
 // Requests, growths and releases, on a record's bytes where they lie.
+#![tactic(auto)]
+
 ghost use Rattle.std.specs.Prelude.{◌≡◌, true, ◌≤◌};
 ghost use Rattle.hypercube.specs.Lists.{among};
 ghost use Rattle.history.specs.Calls.{strategies};

@@ -1,4 +1,6 @@
 // The lines that the log program prints, put into a buffer that the caller lends. Document 01, "Log program".
+#![tactic(auto)]
+
 ghost use Rattle.std.specs.Prelude.{◌≡◌, [], ◌∷◌, ◌+◌, ◌≤◌, ◌<◌, length};
 ghost use Rattle.lines.specs.Text.{digit, decimal, last_item, said, line_of, totals_of};
 ghost use Rattle.lines.specs.Put.{Put, Item};

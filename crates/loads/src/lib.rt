@@ -1,5 +1,7 @@
 // Whether each job's nodes are exactly a subcube with the stored star bits (document 02, (g)): passes over a record's nodes, each of
 // which looks at one other node; the last, in the smallest cubes, at those before.
+#![tactic(auto)]
+
 ghost use Rattle.std.specs.Prelude.{◌≡◌, true, not, cond, ◌<◌, ◌≤◌, length};
 ghost use Rattle.hypercube.specs.Lists.{all_below, any_below, count_below};
 ghost use Rattle.hypercube.specs.ByNodes.{lower, next};

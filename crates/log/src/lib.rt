@@ -1,4 +1,6 @@
 // A log of frames: one frame at a time from a window on the input, and its outcome. Document 01, "Log program".
+#![tactic(auto)]
+
 ghost use Rattle.std.specs.Prelude.{◌≡◌, ◌≢◌, cond, length, drop};
 ghost use Rattle.log.specs.declared.Next.TheVariants.{Broken, More};
 ghost use Rattle.log.specs.Next.{next_of};

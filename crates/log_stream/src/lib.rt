@@ -1,4 +1,6 @@
 // A log whose input comes in pieces of any size, and whose text goes out in pieces: what is to be read or written next. Document 01, "Log program".
+#![tactic(auto)]
+
 ghost use Rattle.std.specs.Prelude.{◌≡◌, true, false, ◌+◌, ◌-◌, ◌<◌, ◌≤◌, ◌^◌, length};
 ghost use Rattle.log_stream.specs.Streams.{start, took, wrote, unwritten, Ready, Closed, Wanting, Advanced};
 

@@ -1,4 +1,6 @@
 // The text of a log, a window on the input at a time. Document 01, "Log program".
+#![tactic(auto)]
+
 ghost use Rattle.std.specs.Prelude.{◌≡◌, false, not, ◌&&◌, leb, ◌+◌, ◌-◌, ◌≤◌, length, take, drop};
 ghost use Rattle.log_text.specs.Moves.{start, Added, Turned, Ran};
 

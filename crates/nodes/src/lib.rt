@@ -1,4 +1,6 @@
 // The nodes' holders, conditions and star bits, and the map, read and changed on a record's bytes where they lie.
+#![tactic(auto)]
+
 ghost use Rattle.std.specs.Prelude.{◌≡◌, true, not, cond, ◌+◌, ◌<◌, ◌≤◌, length, get_or, set, eqb};
 ghost use Rattle.std.specs.Int.Bits.{bit_and};
 ghost use Rattle.hypercube.specs.Bits.{width};

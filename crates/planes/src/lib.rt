@@ -1,5 +1,7 @@
 // Whether rows have a free member, told for every α at once, before a walk: the labels eight to a byte, and both halves star by star.
 // 'None' is proved. That some may be free is not: the walk then looks itself, so a wrong 'may be' costs time alone.
+#![tactic(auto)]
+
 ghost use Rattle.std.specs.Prelude.{◌≡◌, Bool, true, cond, ℕ, ◌+◌, ◌-◌, ◌^◌, ◌≤◌, ◌<◌, eqb};
 ghost use Rattle.hypercube.specs.Bits.{bit};
 ghost use Rattle.runs.specs.Flagged.{flagged};

@@ -1,4 +1,6 @@
 // A record's bytes, and the state that they say (document 01, "Node and record"; document 02, (f)).
+#![tactic(auto)]
+
 ghost use Rattle.std.specs.Prelude.{◌≡◌, cond, map, ◌+◌, ◌*◌, ◌<◌, ◌≤◌, max, eqb, length, get_or};
 ghost use Rattle.hypercube.specs.Lists.{from, all_below};
 ghost use Rattle.hypercube.specs.Words.{word, words};

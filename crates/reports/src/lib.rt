@@ -1,4 +1,6 @@
 // The reports of a node, on a record's bytes where they lie.
+#![tactic(auto)]
+
 ghost use Rattle.std.specs.Prelude.{◌≡◌, true, ◌^◌, ◌<◌, length, leb};
 ghost use Rattle.state.specs.Checks.{barred};
 ghost use Rattle.state.specs.Effects.{told_of};

@@ -1,5 +1,7 @@
 // Runs of labels, looked at whole; and the flags of a cube level by level, the blocks of the top d stars at level d, so that a block with bottom
 // stars too is a run of its level.
+#![tactic(auto)]
+
 ghost use Rattle.std.specs.Prelude.{◌≡◌, cond, ◌+◌, ◌-◌, ◌*◌, ◌^◌, ◌≤◌, ◌<◌, eqb, length};
 ghost use Rattle.runs.specs.Flagged.{flagged, run_free};
 ghost use Rattle.runs.specs.Levels.{both_flags, level_start, at_level, NextLevel, Made, Levels};

@@ -1,4 +1,6 @@
 // A cube's state, the calls, and the state and reply after one, as values.
+#![tactic(auto)]
+
 ghost use Rattle.std.specs.Prelude.{◌≡◌, not, ◌^◌, ◌<◌, ◌≤◌, eqb, get_or};
 ghost use Rattle.hypercube.specs.Lists.{all_below};
 ghost use Rattle.state.specs.States.{fresh_state};

@@ -1,4 +1,6 @@
 // What a call does to a record that is one: the statement of it, and how many nodes the cube of a record has.
+#![tactic(auto)]
+
 ghost use Rattle.std.specs.Prelude.{◌≡◌, true, ◌^◌, ◌≤◌};
 ghost use Rattle.record.specs.Layout.{valid_record, decode};
 

@@ -1,4 +1,6 @@
 // The counts of a log. Document 01, "Log program": "The counts always follow, of lines and of each outcome".
+#![tactic(auto)]
+
 ghost use Rattle.std.specs.Prelude.{◌≡◌};
 ghost use Rattle.tally.specs.Counts.{more, none, counted};
 

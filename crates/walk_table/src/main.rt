@@ -1,5 +1,7 @@
 // What each strategy chooses for every n from 0 to 10 and every k on nine patterns of free labels. The second program writes what is expected:
 // cargo run --release --bin walk-table, in reference/.
+#![tactic(auto)]
+
 ghost use Rattle.std.specs.Prelude.{◌≤◌, ◌<◌};
 
 use hypercube::Walk;

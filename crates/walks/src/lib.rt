@@ -1,5 +1,7 @@
 // The walks over the families, on labels: the first free member with its place, or the family's whole count; and the choice by strategy.
 // Document 01, "Families and their order". Which labels are free is told by flags, 1 where a label is.
+#![tactic(auto)]
+
 ghost use Rattle.std.specs.Prelude.{◌≡◌, true, ◌&&◌, suc, ◌+◌, ◌-◌, ◌*◌, ◌%◌, ◌^◌, ◌≤◌, ◌<◌, min, eqb, length};
 ghost use Rattle.hypercube.specs.Lists.{over};
 ghost use Rattle.hypercube.specs.Bits.{bit};
