@@ -13,7 +13,7 @@ ghost use Rattle.best_fit.specs.Seen.{placed, lesser, first_below, taking, seein
 use hypercube::{Label, Subcube, Walk, pow2};
 
 // What the levels so far have shown: the number of their maximal free blocks; and whether one of them is taken, with its lowest label.
-#[derive(Drop)]
+#[derive(Clone, Copy)]
 struct Seen {
     tried: u16,
     taken: bool,

@@ -18,7 +18,7 @@ const WINDOW: usize = 131072;
 const OUTPUT: usize = 65624;
 
 // The stream after a turn, and whether a write failed.
-#[derive(Drop)]
+#[derive(Clone, Copy)]
 struct Progress {
     stream: Stream,
     failed: bool,

@@ -15,7 +15,7 @@ use record::word;
 use state::Call;
 
 // A frame that is read, or the number of its refusal.
-#[derive(Drop)]
+#[derive(Clone, Copy)]
 pub enum Parsed {
     Known(Call),
     Bad(u16),

@@ -11,11 +11,11 @@ use lib.ListN.{length, take, drop, take-append-drop}
 use lib.Seq.{length-take-le}
 use Rattle.hypercube.specs.Words.{word}
 use Rattle.hypercube.specs.Tests.{cases}
-use Rattle.log.specs.declared.Cursor.{Cursor}
-use Rattle.log.specs.declared.Next.TheVariants.{Frame}
-use Rattle.log.specs.Next.{next_of}
-use Rattle.log.proofs.Nexts as nexts
-use Rattle.log.proofs.Nexts.{Case, case, framed}
+use Rattle.frame_log.specs.declared.Cursor.{Cursor}
+use Rattle.frame_log.specs.declared.Next.TheVariants.{Frame}
+use Rattle.frame_log.specs.Next.{next_of}
+use Rattle.frame_log.proofs.Nexts as nexts
+use Rattle.frame_log.proofs.Nexts.{Case, case, framed}
 use Rattle.log_text.specs.Right.{SetsUp, Whole, joined, Ends, lone, under, past, kind, size, dimension, Parts, nothing, wrong, right}
 use Rattle.log_text.proofs.WrongFirst.{word-take}
 

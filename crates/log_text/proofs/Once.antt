@@ -9,10 +9,10 @@ use Rattle.tally.specs.declared.Outcome.{Outcome}
 use Rattle.tally.specs.declared.Tally.{Tally}
 use Rattle.tally.specs.Counts.{counted}
 use Rattle.lines.specs.Text.{totals_of}
-use Rattle.log.specs.declared.Cursor.{Cursor}
-use Rattle.log.specs.declared.Step.{Step}
-use Rattle.log.specs.declared.Step.TheVariants.{Line, Last, More, End}
-use Rattle.log.specs.Steps.{step_of, step_record}
+use Rattle.frame_log.specs.declared.Cursor.{Cursor}
+use Rattle.frame_log.specs.declared.Step.{Step}
+use Rattle.frame_log.specs.declared.Step.TheVariants.{Line, Last, More, End}
+use Rattle.frame_log.specs.Steps.{step_of, step_record}
 use Rattle.log_text.specs.Text.{line_after, Prints, ends, stops, goes, Printed}
 use Rattle.log_text.proofs.Parts.{line_frame}
 use Rattle.log_text.proofs.Waits.{step_never_more}

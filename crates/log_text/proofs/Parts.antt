@@ -15,15 +15,15 @@ use Rattle.tally.specs.Counts.{counted}
 use Rattle.lines.specs.Text.{totals_of}
 use Rattle.lines.specs.Put.{Put}
 use Rattle.lines.proofs.Lengths.{line_length}
-use Rattle.log.specs.declared.Cursor.{Cursor}
-use Rattle.log.specs.declared.Next.{Next}
-use Rattle.log.specs.declared.Next.TheVariants as next
-use Rattle.log.specs.declared.Step.{Step}
-use Rattle.log.specs.declared.Step.TheVariants.{Line, Last, More, End}
-use Rattle.log.specs.Next.{next_of}
-use Rattle.log.specs.Frames.{first_number}
-use Rattle.log.specs.Steps.{on_frame, step_by, record_by, step_of, step_record, Stepped}
-use Rattle.log.proofs.Nexts.{Framed, framed}
+use Rattle.frame_log.specs.declared.Cursor.{Cursor}
+use Rattle.frame_log.specs.declared.Next.{Next}
+use Rattle.frame_log.specs.declared.Next.TheVariants as next
+use Rattle.frame_log.specs.declared.Step.{Step}
+use Rattle.frame_log.specs.declared.Step.TheVariants.{Line, Last, More, End}
+use Rattle.frame_log.specs.Next.{next_of}
+use Rattle.frame_log.specs.Frames.{first_number}
+use Rattle.frame_log.specs.Steps.{on_frame, step_by, record_by, step_of, step_record, Stepped}
+use Rattle.frame_log.proofs.Nexts.{Framed, framed}
 use Rattle.log_text.specs.declared.Place.{Place}
 use Rattle.log_text.specs.Text.{line_after, ends, stops, goes}
 use Rattle.log_text.specs.Moves.{Added, Left, Turned}

@@ -10,14 +10,14 @@ use lib.ListN.{length, take, length-append}
 use lib.Seq.{take-append-le}
 use Rattle.hypercube.specs.Tests.{cases}
 use Rattle.hypercube.specs.Words.{word}
-use Rattle.log.specs.declared.Next.{Next}
-use Rattle.log.specs.declared.Next.TheVariants as next
-use Rattle.log.specs.declared.Step.{Step}
-use Rattle.log.specs.declared.Step.TheVariants.{Line, Last, More, End}
-use Rattle.log.specs.Next.{next_of}
-use Rattle.log.specs.Frames.{first_number}
-use Rattle.log.specs.Steps.{on_frame, step_by, record_by, step_of, step_record}
-use Rattle.log.proofs.Nexts.{Case, none, lone, under, past, whole, case, word_append, next_none, next_lone, next_under, next_past, next_whole}
+use Rattle.frame_log.specs.declared.Next.{Next}
+use Rattle.frame_log.specs.declared.Next.TheVariants as next
+use Rattle.frame_log.specs.declared.Step.{Step}
+use Rattle.frame_log.specs.declared.Step.TheVariants.{Line, Last, More, End}
+use Rattle.frame_log.specs.Next.{next_of}
+use Rattle.frame_log.specs.Frames.{first_number}
+use Rattle.frame_log.specs.Steps.{on_frame, step_by, record_by, step_of, step_record}
+use Rattle.frame_log.proofs.Nexts.{Case, none, lone, under, past, whole, case, word_append, next_none, next_lone, next_under, next_past, next_whole}
 
 -- a step whose cursor counts from `at` on
 abbrev pub moved : ℕ → Step → Step

@@ -19,15 +19,15 @@ use Rattle.record.specs.Layout.{record_size}
 use Rattle.cube.specs.Called.{setup_record, call_record, delivered}
 use Rattle.cube.specs.Run.{Exchanges, begin, ◌next◌, record_after}
 use Rattle.cube.proofs.Theorem.{heard_is, demand3}
-use Rattle.log.specs.declared.Cursor.{Cursor}
-use Rattle.log.specs.declared.Next.{Next}
-use Rattle.log.specs.declared.Next.TheVariants as next
-use Rattle.log.specs.declared.Step.TheVariants.{Line, More, End}
-use Rattle.log.specs.Next.{next_of}
-use Rattle.log.specs.Frames.{first_number, first_record, zeros, later_outcome, later_record, told}
-use Rattle.log.specs.Steps.{on_frame, on_record, step_of, step_record}
-use Rattle.log.proofs.Nexts.{framed, word_append, next_none, next_whole}
-use Rattle.log.proofs.Firsts.{set_up}
+use Rattle.frame_log.specs.declared.Cursor.{Cursor}
+use Rattle.frame_log.specs.declared.Next.{Next}
+use Rattle.frame_log.specs.declared.Next.TheVariants as next
+use Rattle.frame_log.specs.declared.Step.TheVariants.{Line, More, End}
+use Rattle.frame_log.specs.Next.{next_of}
+use Rattle.frame_log.specs.Frames.{first_number, first_record, zeros, later_outcome, later_record, told}
+use Rattle.frame_log.specs.Steps.{on_frame, on_record, step_of, step_record}
+use Rattle.frame_log.proofs.Nexts.{framed, word_append, next_none, next_whole}
+use Rattle.frame_log.proofs.Firsts.{set_up}
 use Rattle.log_text.specs.Text.{Prints, ends, stops, goes}
 use Rattle.log_text.proofs.Waits.{never_more}
 use Rattle.log_text.proofs.WrongFirst.{wrong_first}

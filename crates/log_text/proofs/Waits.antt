@@ -9,12 +9,12 @@ use lib.Dec.{eqb}
 use lib.ListN.{length, take}
 use Rattle.hypercube.specs.Words.{word}
 use Rattle.hypercube.specs.Tests.{cases}
-use Rattle.log.specs.declared.Next.{Next}
-use Rattle.log.specs.declared.Next.TheVariants as next
-use Rattle.log.specs.declared.Step.TheVariants.{More}
-use Rattle.log.specs.Next.{next_of}
-use Rattle.log.specs.Steps.{step_by, step_of}
-use Rattle.log.proofs.Nexts.{Case, none, lone, under, past, whole, case, next_none, next_lone, next_under, next_past, next_whole}
+use Rattle.frame_log.specs.declared.Next.{Next}
+use Rattle.frame_log.specs.declared.Next.TheVariants as next
+use Rattle.frame_log.specs.declared.Step.TheVariants.{More}
+use Rattle.frame_log.specs.Next.{next_of}
+use Rattle.frame_log.specs.Steps.{step_by, step_of}
+use Rattle.frame_log.proofs.Nexts.{Case, none, lone, under, past, whole, case, next_none, next_lone, next_under, next_past, next_whole}
 use Rattle.log_text.proofs.Parts.{on_more}
 
 -- the bytes l are fewer than any m that a length field and its frame need

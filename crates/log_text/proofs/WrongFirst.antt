@@ -16,12 +16,12 @@ use Rattle.tally.specs.Counts.{none, counted}
 use Rattle.lines.specs.Text.{totals_of}
 use Rattle.record.specs.Layout.{record_size}
 use Rattle.cube.specs.Called.{setup_number}
-use Rattle.log.specs.declared.Next.TheVariants as next
-use Rattle.log.specs.Next.{next_of}
-use Rattle.log.specs.Frames.{first_number}
-use Rattle.log.specs.Steps.{on_frame, step_of}
-use Rattle.log.proofs.Nexts.{next_lone, next_under, next_past, next_whole}
-use Rattle.log.proofs.Firsts.{first_kind, first_size, set_up}
+use Rattle.frame_log.specs.declared.Next.TheVariants as next
+use Rattle.frame_log.specs.Next.{next_of}
+use Rattle.frame_log.specs.Frames.{first_number}
+use Rattle.frame_log.specs.Steps.{on_frame, step_of}
+use Rattle.frame_log.proofs.Nexts.{next_lone, next_under, next_past, next_whole}
+use Rattle.frame_log.proofs.Firsts.{first_kind, first_size, set_up}
 use Rattle.log_text.specs.Text.{line_after, Prints, stops}
 use Rattle.log_text.specs.Right.{WholeFirst, Wrong, lone, under, past, kind, size, dimension}
 

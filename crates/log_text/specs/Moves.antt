@@ -4,8 +4,8 @@ use Rattle.tally.specs.declared.Outcome.{Outcome}
 use Rattle.tally.specs.Counts.{none, counted}
 use Rattle.lines.specs.Text.{totals_of}
 use Rattle.lines.specs.Put.{Put}
-use Rattle.log.specs.declared.Step.TheVariants.{More}
-use Rattle.log.specs.Steps.{step_of}
+use Rattle.frame_log.specs.declared.Step.TheVariants.{More}
+use Rattle.frame_log.specs.Steps.{step_of}
 use Rattle.log_text.specs.declared.Place.{Place}
 use Rattle.log_text.specs.Text.{line_after, Prints}
 

@@ -8,11 +8,11 @@ use Rattle.tally.specs.declared.Tally.{Tally}
 use Rattle.tally.specs.Counts.{none, counted}
 use Rattle.lines.specs.Text.{totals_of}
 use Rattle.cube.specs.Run.{Exchange, Exchanges, begin, ◌next◌, fed, history_at}
-use Rattle.log.specs.declared.Cursor.{Cursor}
-use Rattle.log.specs.declared.Next.{Next}
-use Rattle.log.specs.declared.Next.TheVariants.{Frame, More, End, Broken}
-use Rattle.log.specs.Next.{next_of}
-use Rattle.log.specs.Frames.{told, zeros}
+use Rattle.frame_log.specs.declared.Cursor.{Cursor}
+use Rattle.frame_log.specs.declared.Next.{Next}
+use Rattle.frame_log.specs.declared.Next.TheVariants.{Frame, More, End, Broken}
+use Rattle.frame_log.specs.Next.{next_of}
+use Rattle.frame_log.specs.Frames.{told, zeros}
 use Rattle.log_text.specs.Text.{line_after, Prints}
 
 -- "06 00 01 03", then n: a set-up of length 6 and kind 0x0301

@@ -4,9 +4,9 @@ use Rattle.tally.specs.declared.Outcome.{Outcome}
 use Rattle.tally.specs.declared.Tally.{Tally}
 use Rattle.tally.specs.Counts.{counted}
 use Rattle.lines.specs.Text.{line_of, totals_of}
-use Rattle.log.specs.declared.Cursor.{Cursor}
-use Rattle.log.specs.declared.Step.TheVariants.{Line, Last, End}
-use Rattle.log.specs.Steps.{step_of, step_record}
+use Rattle.frame_log.specs.declared.Cursor.{Cursor}
+use Rattle.frame_log.specs.declared.Step.TheVariants.{Line, Last, End}
+use Rattle.frame_log.specs.Steps.{step_of, step_record}
 
 -- the line of an outcome after the counts t: its place is the number of lines
 abbrev pub line_after : Tally → Outcome → List ℕ

@@ -4,11 +4,11 @@
 ghost use Rattle.std.specs.Prelude.{◌≡◌, false, not, ◌&&◌, leb, ◌+◌, ◌-◌, ◌≤◌, length, take, drop};
 ghost use Rattle.log_text.specs.Moves.{start, Added, Turned, Ran};
 
-use log::{Cursor, Step};
+use frame_log::{Cursor, Step};
 use tally::{Outcome, Tally};
 
 // How far a log is: the place in the window, the place in the output, the counts so far, whether it has ended, and whether it waits for more input.
-#[derive(Drop)]
+#[derive(Clone, Copy)]
 pub struct Place {
     pub at: usize,
     pub put: usize,
@@ -59,7 +59,7 @@ fn turn(rec: &mut [u8], window: &[u8], last: bool, out: &mut [u8], p: Place) -> 
     let at = p.at;
     let tally = p.tally;
     let put = p.put;
-    let s = log::take_step(rec, window, Cursor { at }, last, tally.total);
+    let s = frame_log::take_step(rec, window, Cursor { at }, last, tally.total);
     match s {
         Step::Line(o, c) => add_line(out, p, o, c.at, false),
         Step::Last(o) => add_line(out, p, o, at, true),

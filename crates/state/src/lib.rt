@@ -21,7 +21,7 @@ pub struct State {
 }
 
 // The calls (document 01, "Six calls and their frames"; a growth by document 02, (e)).
-#[derive(Drop)]
+#[derive(Clone, Copy)]
 pub enum Call {
     Good(Node),
     Fault(Node),

@@ -5,7 +5,7 @@ ghost use Rattle.std.specs.Prelude.{◌≡◌};
 ghost use Rattle.tally.specs.Counts.{more, none, counted};
 
 // What a line says: 'setup' has n, 'done' a value, 'granted' job, lowest node, star bits and tried, 'refused' number and tried.
-#[derive(Drop)]
+#[derive(Clone, Copy)]
 pub enum Outcome {
     Setup(u16),
     Done(u16),
@@ -21,7 +21,7 @@ pub enum Outcome {
     },
 }
 
-#[derive(Drop)]
+#[derive(Clone, Copy)]
 pub struct Tally {
     pub total: u32,
     pub setup: u32,

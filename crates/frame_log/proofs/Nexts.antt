@@ -11,10 +11,10 @@ use lib.ListN.{length, drop, length-append, get_or-append}
 use lib.Seq.{get_or-drop}
 use Rattle.hypercube.specs.Tests.{cases}
 use Rattle.hypercube.specs.Words.{word}
-use Rattle.log.specs.declared.Next.{Next}
-use Rattle.log.specs.declared.Next.TheVariants.{Frame, More, End, Broken}
-use Rattle.log.specs.declared.Cursor.{Cursor}
-use Rattle.log.specs.Next.{next_of}
+use Rattle.frame_log.specs.declared.Next.{Next}
+use Rattle.frame_log.specs.declared.Next.TheVariants.{Frame, More, End, Broken}
+use Rattle.frame_log.specs.declared.Cursor.{Cursor}
+use Rattle.frame_log.specs.Next.{next_of}
 
 pub word-drop : (w : List ℕ) (at : ℕ) → word (drop at w) 0 ≡ word w at
 unfolding word

@@ -1,9 +1,9 @@
--- `log::read_reply` meets its contract. Assumes nothing.
+-- `frame_log::read_reply` meets its contract. Assumes nothing.
 use borrow.Author.Rules.{rules}
 use native.Mathlib.Omega.{arith}
-use Rattle.log.proofs.Stepping.{reply-refused, reply-granted, reply_done}
-use Rattle.log.proofs.read_reply.Statement.{statement}
-use Rattle.log.proofs.read_reply.Tie as tie
+use Rattle.frame_log.proofs.Stepping.{reply-refused, reply-granted, reply_done}
+use Rattle.frame_log.proofs.read_reply.Statement.{statement}
+use Rattle.frame_log.proofs.read_reply.Tie as tie
 
 word_requires : tie.Need-word-requires
 word_requires c κs = search rules

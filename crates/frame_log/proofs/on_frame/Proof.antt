@@ -1,8 +1,8 @@
--- `log::on_frame` meets its contract. Assumes nothing.
+-- `frame_log::on_frame` meets its contract. Assumes nothing.
 use borrow.Author.Rules.{rules}
-use Rattle.log.proofs.Stepping.{later_line}
-use Rattle.log.proofs.on_frame.Statement.{statement}
-use Rattle.log.proofs.on_frame.Tie as tie
+use Rattle.frame_log.proofs.Stepping.{later_line}
+use Rattle.frame_log.proofs.on_frame.Statement.{statement}
+use Rattle.frame_log.proofs.on_frame.Tie as tie
 
 on_first_requires : tie.Need-on-first-requires
 on_first_requires c κs = search rules

@@ -1,8 +1,8 @@
 -- What the input has next. Document 01: "A lone last byte, or a length under 4 or past the input's end, prints 'refused 3 0' and stops."
 use Rattle.std.specs.Prelude.{ℕ, ◌+◌, Bool, cond, List, ltb, length}
 use Rattle.hypercube.specs.Words.{word}
-use Rattle.log.specs.declared.Next.{Next}
-use Rattle.log.specs.declared.Next.TheVariants.{Frame, More, End, Broken}
+use Rattle.frame_log.specs.declared.Next.{Next}
+use Rattle.frame_log.specs.declared.Next.TheVariants.{Frame, More, End, Broken}
 
 -- of the bytes l from the place `at` on: `last` says that the input ends with them, otherwise more of it may follow
 unfoldable pub next_of : Bool → ℕ → List ℕ → Next

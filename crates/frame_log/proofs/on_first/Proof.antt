@@ -1,10 +1,10 @@
--- `log::on_first` meets its contract. Assumes nothing.
+-- `frame_log::on_first` meets its contract. Assumes nothing.
 use borrow.Author.Rules.{rules}
 use native.Mathlib.Omega.{arith}
-use Rattle.log.proofs.Firsts.{set_up_size}
-use Rattle.log.proofs.Stepping.{first_refused, first_set}
-use Rattle.log.proofs.on_first.Statement.{statement}
-use Rattle.log.proofs.on_first.Tie as tie
+use Rattle.frame_log.proofs.Firsts.{set_up_size}
+use Rattle.frame_log.proofs.Stepping.{first_refused, first_set}
+use Rattle.frame_log.proofs.on_first.Statement.{statement}
+use Rattle.frame_log.proofs.on_first.Tie as tie
 
 set_up_requires : tie.Need-set-up-requires
 set_up_requires c κs = search rules

@@ -1,11 +1,11 @@
--- `log::next_frame` meets its contract. Assumes nothing.
+-- `frame_log::next_frame` meets its contract. Assumes nothing.
 use borrow.Author.Rules.{rules}
 use mathlib.Core.Path.{sym, ◌∙◌}
 use native.Mathlib.Omega.{arith}
 use lib.ListN.{length-drop}
-use Rattle.log.proofs.Nexts.{word-drop, next_none, next_lone, next_under, next_past, next_whole}
-use Rattle.log.proofs.next_frame.Statement.{statement}
-use Rattle.log.proofs.next_frame.Tie as tie
+use Rattle.frame_log.proofs.Nexts.{word-drop, next_none, next_lone, next_under, next_past, next_whole}
+use Rattle.frame_log.proofs.next_frame.Statement.{statement}
+use Rattle.frame_log.proofs.next_frame.Tie as tie
 
 returns : tie.Need-returns
 returns c = sym (next_none _ _ _ (rw length-drop (omega arith)) ∙ rw c.if2.true)

@@ -1,9 +1,9 @@
--- `log::set_up` meets its contract. Assumes nothing.
+-- `frame_log::set_up` meets its contract. Assumes nothing.
 use borrow.Author.Rules.{rules}
 use native.Mathlib.Omega.{arith}
-use Rattle.log.proofs.Firsts.{first_short, first_length, first_kind, first_size, first_set_up}
-use Rattle.log.proofs.set_up.Statement.{statement}
-use Rattle.log.proofs.set_up.Tie as tie
+use Rattle.frame_log.proofs.Firsts.{first_short, first_length, first_kind, first_size, first_set_up}
+use Rattle.frame_log.proofs.set_up.Statement.{statement}
+use Rattle.frame_log.proofs.set_up.Tie as tie
 
 returns : tie.Need-returns
 returns c = first_short _ _ (omega arith)

@@ -2,22 +2,22 @@
 #![tactic(auto)]
 
 ghost use Rattle.std.specs.Prelude.{◌≡◌, ◌≢◌, cond, length, drop};
-ghost use Rattle.log.specs.declared.Next.TheVariants.{Broken, More};
-ghost use Rattle.log.specs.Next.{next_of};
+ghost use Rattle.frame_log.specs.declared.Next.TheVariants.{Broken, More};
+ghost use Rattle.frame_log.specs.Next.{next_of};
 ghost use Rattle.hypercube.specs.Replies.{heard};
-ghost use Rattle.log.specs.Frames.{First, Later, told};
-ghost use Rattle.log.specs.Steps.{OnFrame, Stepped};
+ghost use Rattle.frame_log.specs.Frames.{First, Later, told};
+ghost use Rattle.frame_log.specs.Steps.{OnFrame, Stepped};
 
 use tally::Outcome;
 
 // The place in a window up to which frames were read.
-#[derive(Drop)]
+#[derive(Clone, Copy)]
 pub struct Cursor {
     pub at: usize,
 }
 
 // What the input has next.
-#[derive(Drop)]
+#[derive(Clone, Copy)]
 pub enum Next {
     // A whole frame, which ends where the cursor stands.
     Frame(Cursor),

@@ -10,7 +10,7 @@ use lib.ListN.{length}
 use Rattle.hypercube.specs.Words.{word}
 use Rattle.hypercube.specs.Tests.{cases}
 use Rattle.cube.specs.Called.{setup_number, setup_record, delivered, SetUp}
-use Rattle.log.specs.Frames.{first_number, first_record, First}
+use Rattle.frame_log.specs.Frames.{first_number, first_record, First}
 
 module _ (r f : List ℕ) where
   refused : (m : ℕ) → m ≢ 0 → first_number r f ≡ m → First r f m r

@@ -2,13 +2,13 @@
 use Rattle.std.specs.Prelude.{ℕ, ◌≡◌, Bool, cond, List, eqb, take}
 use Rattle.hypercube.specs.Words.{word}
 use Rattle.tally.specs.declared.Outcome.TheVariants.{Setup, Refused}
-use Rattle.log.specs.declared.Cursor.{Cursor}
-use Rattle.log.specs.declared.Next.{Next}
-use Rattle.log.specs.declared.Next.TheVariants as next
-use Rattle.log.specs.declared.Step.{Step}
-use Rattle.log.specs.declared.Step.TheVariants as step
-use Rattle.log.specs.Next.{next_of}
-use Rattle.log.specs.Frames.{first_number, first_record, later_outcome, later_record}
+use Rattle.frame_log.specs.declared.Cursor.{Cursor}
+use Rattle.frame_log.specs.declared.Next.{Next}
+use Rattle.frame_log.specs.declared.Next.TheVariants as next
+use Rattle.frame_log.specs.declared.Step.{Step}
+use Rattle.frame_log.specs.declared.Step.TheVariants as step
+use Rattle.frame_log.specs.Next.{next_of}
+use Rattle.frame_log.specs.Frames.{first_number, first_record, later_outcome, later_record}
 
 -- the frame f, which ends at the cursor c, with `lines` lines before it, on the record r. The first frame: "'setup' has n"; "A first frame that isn't
 -- a right set-up is refused with 3, 4, 5 or 7, tried 0, and stops"

@@ -1,8 +1,8 @@
--- `log::take_step` meets its contract. Assumes nothing.
+-- `frame_log::take_step` meets its contract. Assumes nothing.
 use borrow.Author.Rules.{rules}
-use Rattle.log.proofs.Stepping.{within, step_full, step_by_lem, step_frame}
-use Rattle.log.proofs.take_step.Statement.{statement}
-use Rattle.log.proofs.take_step.Tie as tie
+use Rattle.frame_log.proofs.Stepping.{within, step_full, step_by_lem, step_frame}
+use Rattle.frame_log.proofs.take_step.Statement.{statement}
+use Rattle.frame_log.proofs.take_step.Tie as tie
 
 returns : tie.Need-returns
 returns c = step_full _ _ _ _ _ c.if1.true

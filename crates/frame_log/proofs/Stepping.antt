@@ -12,15 +12,15 @@ use Rattle.hypercube.specs.Replies.{heard}
 use Rattle.tally.specs.declared.Outcome.{Outcome}
 use Rattle.tally.specs.declared.Outcome.TheVariants.{Setup, Done, Granted, Refused}
 use Rattle.cube.specs.Called.{delivered, Called}
-use Rattle.log.specs.declared.Cursor.{Cursor}
-use Rattle.log.specs.declared.Next.{Next}
-use Rattle.log.specs.declared.Next.TheVariants.{Frame}
-use Rattle.log.specs.declared.Step.{Step}
-use Rattle.log.specs.declared.Step.TheVariants.{Line, Last, End}
-use Rattle.log.specs.Next.{next_of}
-use Rattle.log.specs.Frames.{first_number, first_record, told, later_outcome, later_record, zeros, Later}
-use Rattle.log.specs.Steps.{on_frame, on_record, OnFrame, step_by, record_by, step_of, step_record, Stepped}
-use Rattle.log.proofs.Nexts.{framed}
+use Rattle.frame_log.specs.declared.Cursor.{Cursor}
+use Rattle.frame_log.specs.declared.Next.{Next}
+use Rattle.frame_log.specs.declared.Next.TheVariants.{Frame}
+use Rattle.frame_log.specs.declared.Step.{Step}
+use Rattle.frame_log.specs.declared.Step.TheVariants.{Line, Last, End}
+use Rattle.frame_log.specs.Next.{next_of}
+use Rattle.frame_log.specs.Frames.{first_number, first_record, told, later_outcome, later_record, zeros, Later}
+use Rattle.frame_log.specs.Steps.{on_frame, on_record, OnFrame, step_by, record_by, step_of, step_record, Stepped}
+use Rattle.frame_log.proofs.Nexts.{framed}
 
 -- ---- the outcome that a number and a reply say
 

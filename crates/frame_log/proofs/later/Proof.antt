@@ -1,11 +1,11 @@
--- `log::later` meets its contract. Assumes nothing.
+-- `frame_log::later` meets its contract. Assumes nothing.
 use borrow.Author.Rules.{rules}
 use mathlib.Core.Path.{sym, ◌∙◌}
 use native.Mathlib.Omega.{arith}
 use Rattle.cube.proofs.Room.{not_2}
-use Rattle.log.proofs.Stepping.{later_told}
-use Rattle.log.proofs.later.Statement.{statement}
-use Rattle.log.proofs.later.Tie as tie
+use Rattle.frame_log.proofs.Stepping.{later_told}
+use Rattle.frame_log.proofs.later.Statement.{statement}
+use Rattle.frame_log.proofs.later.Tie as tie
 
 slice_aggregate_cube_call : tie.Need-slice-aggregate-cube-call
 slice_aggregate_cube_call c = search rules
