@@ -65,6 +65,7 @@ module _ (n d : ℕ) (p : 1 ≤ d) (q : d ≤ n) where
       rw (both, twice) (parts a b (pow_pos (d - 1)))
     where
       parts : (a b : ℕ) → 0 < a → (a + a - 1) * b ≡ (a - 1) * (b + b) + b
+      parts zero b h = elim h [ ]
       parts (suc a) b h = let e : suc a + suc a - 1 ≡ suc (a + a) = omega arith in let g : suc a - 1 ≡ a = omega arith in rw (e, g) (omega arith)
 
   pub level_across : (f : ℕ → Bool) (x : ℕ) → n ≤ width

@@ -18,81 +18,81 @@ use Rattle.best_fit.proofs.Shown.{Shown, shown_first, tried_small, shown_next, s
 use Rattle.best_fit.proofs.best_walk.Statement.{statement}
 use Rattle.best_fit.proofs.best_walk.Tie as tie
 
-abbrev invariant-loop : tie.invariant-loop
-invariant-loop flags n k level₀ above₀ seen₀ free₀ d₀ ls above seen free d =
+abbrev invariant-loop-d : tie.invariant-loop-d
+invariant-loop-d flags n k level₀ above₀ seen₀ free₀ d₀ ls above seen free d =
     Laid (level (flagged flags) d) (2 ^ (n - d)) 1024 free ls × Shown n k d (flagged flags) seen × (length above ≡ 512) × (d ≤ n)
 
-abbrev decreases-loop : tie.decreases-loop
-decreases-loop flags n k level₀ above₀ seen₀ free₀ d₀ ls above seen free d = n - d
+abbrev decreases-loop-d : tie.decreases-loop-d
+decreases-loop-d flags n k level₀ above₀ seen₀ free₀ d₀ ls above seen free d = n - d
 
-pow2_requires : tie.Need-pow2-requires invariant-loop decreases-loop
+pow2_requires : tie.Need-pow2-requires invariant-loop-d decreases-loop-d
 pow2_requires c κs = omega arith
 
-first_level_requires : tie.Need-first-level-requires invariant-loop decreases-loop
-first_level_requires c κs = (omega (arith, c.before.pow2.ensures, pow_mono {i = c.before.before.args.n} {j = 10} (omega arith)), refl)
+first_level_requires : tie.Need-first_level-free-requires invariant-loop-d decreases-loop-d
+first_level_requires c κs = (omega (arith, c.pow2.ensures, pow_mono {i = c.args.n} {j = 10} (omega arith)), refl)
 
-loop-holds : tie.Need-loop-init invariant-loop decreases-loop
+loop-holds : tie.Need-loop-d-init invariant-loop-d decreases-loop-d
 loop-holds c =
-    let a = c.before.before.before.args in (
-      laid_first (flagged a.flags.now) a.n _ _ _ c.before.before.pow2.ensures c.first-level.ensures,
+    let a = c.args in (
+      laid_first (flagged a.flags.now) a.n _ _ _ c.pow2.ensures c.first_level-free.ensures,
       shown_first a.n a.k (flagged a.flags.now),
       refl,
       omega arith,
     )
 
-sub_pow2 : tie.Need-overflow-sub-pow2 invariant-loop decreases-loop
+sub_pow2 : tie.Need-overflow_sub-n invariant-loop-d decreases-loop-d
 sub_pow2 c = omega arith
 
-sub_pow2_2 : tie.Need-overflow-sub-pow2-2 invariant-loop decreases-loop
+sub_pow2_2 : tie.Need-overflow_sub-n-in-loop-d invariant-loop-d decreases-loop-d
 sub_pow2_2 c = omega arith
 
-pow2_requires_2 : tie.Need-pow2-requires-2 invariant-loop decreases-loop
+pow2_requires_2 : tie.Need-pow2-count-requires invariant-loop-d decreases-loop-d
 pow2_requires_2 c κs = omega arith
 
-join_requires : tie.Need-join-requires invariant-loop decreases-loop
+join_requires : tie.Need-join-both-requires invariant-loop-d decreases-loop-d
 join_requires c κs =
-    let l = c.before.before.before.before.loop in
-    let a = c.before.before.before.before.before.before.before.before.args in
-    let e = c.before.before.pow22.ensures in (
+    let l = c.loop-d in
+    let a = c.args in
+    let e = c.pow2-count.ensures in (
       rw e (pairs_small a.n l.d (omega arith) (omega arith)),
       rw e (pairs_zero_one (flagged a.flags.now) a.n l.d (omega arith) l.invariant.0),
       l.invariant.2,
     )
 
 -- the free of level d: those alone, and those of pairs
-split : (c : tie.After-level3 invariant-loop decreases-loop)
-    → let l = c.before.before.before.before.before.before.loop in
-    let N = c.before.before.before.before.pow22.result in
-    l.free ≡ count_below N (lone (flagged l.level)) + 2 * c.before.join.result
+split : (c : tie.After-level-in-loop-d-2-1 invariant-loop-d decreases-loop-d)
+    → let l = c.loop-d in
+    let N = c.pow2-count.result in
+    l.free ≡ count_below N (lone (flagged l.level)) + 2 * c.join-both.result
 split c =
-    let l = c.before.before.before.before.before.before.loop in
-    let a = c.before.before.before.before.before.before.before.before.before.before.args in
-    let e = c.before.before.before.before.pow22.ensures in
-    let J = rw e at c.before.join.ensures.count in
+    let l = c.loop-d in
+    let a = c.args in
+    let e = c.pow2-count.ensures in
+    let J = rw e at c.join-both.ensures.count in
     rw e (omega (arith, J, alone_count (flagged a.flags.now) a.n l.d (omega arith) l.invariant.0))
 
-few : (c : tie.After-level3 invariant-loop decreases-loop) → c.before.before.before.before.pow22.result ≤ 512
+few : (c : tie.After-level-in-loop-d-2-1 invariant-loop-d decreases-loop-d) → c.pow2-count.result ≤ 512
 few c =
-    let l = c.before.before.before.before.before.before.loop in
-    let a = c.before.before.before.before.before.before.before.before.before.before.args in
-    rw c.before.before.before.before.pow22.ensures (pairs_small a.n l.d (omega arith) (omega arith))
+    let l = c.loop-d in
+    let a = c.args in
+    rw c.pow2-count.ensures (pairs_small a.n l.d (omega arith) (omega arith))
 
-mul_see : tie.Need-overflow-mul-see invariant-loop decreases-loop
+mul_see : tie.Need-overflow_mul-both invariant-loop-d decreases-loop-d
 mul_see c =
-    let l = c.before.before.before.before.before.before.loop in
-    omega (arith, few c, c.before.join.ensures.count, count_le (joined (flagged l.level)) c.before.before.before.before.pow22.result)
+    let l = c.loop-d in
+    omega (arith, few c, c.join-both.ensures.count, count_le (joined (flagged l.level)) c.pow2-count.result)
 
-sub_see : tie.Need-overflow-sub-see invariant-loop decreases-loop
+sub_see : tie.Need-overflow_sub-free invariant-loop-d decreases-loop-d
 sub_see c = omega (arith, split c)
 
-see_requires : tie.Need-see-requires invariant-loop decreases-loop
+see_requires : tie.Need-see-seen-requires invariant-loop-d decreases-loop-d
 see_requires c κs =
-    let l = c.before.before.before.before.before.before.loop in
-    let a = c.before.before.before.before.before.before.before.before.before.before.args in
-    let e = c.before.before.before.before.pow22.ensures in
+    let l = c.loop-d in
+    let a = c.args in
+    let e = c.pow2-count.ensures in
     let f = flagged a.flags.now in
     let tried = tried_small a.n a.k l.d f l.seen (omega arith) l.invariant.1 in
-    let alone = count_le (lone (flagged l.level)) c.before.before.before.before.pow22.result in (
+    let alone = count_le (lone (flagged l.level)) c.pow2-count.result in (
       (
         few c,
         rw e (pairs_fit a.n l.d (omega arith) (omega arith)),
@@ -102,58 +102,58 @@ see_requires c κs =
       (rw e (pairs_zero_one f a.n l.d (omega arith) l.invariant.0), omega (arith, split c)),
     )
 
-rise_requires : tie.Need-rise-requires invariant-loop decreases-loop
-rise_requires c κs = (few c.before.before.before, c.before.before.before.before.before.before.before.before.before.loop.invariant.0.long)
+rise_requires : tie.Need-rise-requires invariant-loop-d decreases-loop-d
+rise_requires c κs = (few c.before.before.before, c.loop-d.invariant.0.long)
 
-add_d : tie.Need-overflow-add-d invariant-loop decreases-loop
+add_d : tie.Need-overflow_add-d invariant-loop-d decreases-loop-d
 add_d c = omega arith
 
-loop-less : tie.Need-loop-smaller invariant-loop decreases-loop
+loop-less : tie.Need-loop-d-smaller invariant-loop-d decreases-loop-d
 loop-less c = omega arith
 
-loop-again : tie.Need-loop-preserved invariant-loop decreases-loop
+loop-again : tie.Need-loop-d-preserved invariant-loop-d decreases-loop-d
 loop-again c =
-    let l = c.before.before.before.before.before.before.before.before.before.before.loop in
-    let a = c.before.before.before.before.before.before.before.before.before.before.before.before.before.before.args in
-    let e = c.before.before.before.before.before.before.before.before.pow22.ensures in
+    let l = c.loop-d in
+    let a = c.args in
+    let e = c.pow2-count.ensures in
     let f = flagged a.flags.now in
-    let J = c.before.before.before.before.before.join.ensures in (
+    let J = c.join-both.ensures in (
       laid_above f a.n l.d (omega arith) l.invariant.0 (rw e at J) (rw e at c.rise.ensures),
-      rw (c.before.before.before.see.ensures, e) (shown_next a.n a.k l.d f (flagged l.level) l.seen (omega arith) (omega arith)
+      rw (c.see-seen.ensures, e) (shown_next a.n a.k l.d f (flagged l.level) l.seen (omega arith) (omega arith)
           (tells f a.n l.d (omega arith) l.invariant.0) l.invariant.1),
       J.long,
       omega arith,
     )
 
-array_read_see_top : tie.Need-array-read-see-top invariant-loop decreases-loop
+array_read_see_top : tie.Need-bounds-level-0 invariant-loop-d decreases-loop-d
 array_read_see_top c = omega arith
 
-see_top_requires : tie.Need-see-top-requires invariant-loop decreases-loop
+see_top_requires : tie.Need-see_top-requires invariant-loop-d decreases-loop-d
 see_top_requires c κs =
-    let l = c.before.loop in
-    let a = c.before.before.before.before.before.args in
+    let l = c.loop-d in
+    let a = c.args in
     omega (arith, tried_small a.n a.k l.d (flagged a.flags.now) l.seen (omega arith) l.invariant.1)
 
-answer_requires : tie.Need-answer-requires invariant-loop decreases-loop
+answer_requires : tie.Need-answer-requires invariant-loop-d decreases-loop-d
 answer_requires c κs = omega arith
 
-returns : tie.Need-returns invariant-loop decreases-loop
+returns : tie.Need-returns invariant-loop-d decreases-loop-d
 returns c =
-    let l = c.before.before.before.loop in
-    let a = c.before.before.before.before.before.before.before.args in
+    let l = c.loop-d in
+    let a = c.args in
     let f = flagged a.flags.now in
     let e : l.d ≡ a.n = omega arith in
     let top : flagged l.level 0 ≡ level f l.d 0 =
     told (level f l.d) (2 ^ (a.n - l.d)) l.level l.invariant.0.tells 0 (pow_pos (a.n - l.d)) in
-    c.answer.ensures ∙ ap (λ (s : Seen). answering a.k s.taken s) c.before.see-top.ensures
+    c.answer.ensures ∙ ap (λ (s : Seen). answering a.k s.taken s) c.see_top.ensures
     ∙ shown_answer a.n a.k f l.seen (flagged l.level 0) (omega arith) (omega arith) (rw e at l.invariant.1) (rw e at top)
 
 pub best_walk_spec : {M : Type 1} → statement M
 best_walk_spec =
     tie.close
     (tie.spec
-    invariant-loop
-    decreases-loop
+    invariant-loop-d
+    decreases-loop-d
     pow2_requires
     first_level_requires
     loop-holds

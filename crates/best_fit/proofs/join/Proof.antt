@@ -13,102 +13,100 @@ use Rattle.best_fit.proofs.Pairs.{pair_of, pair_at, pair_both, pair_small}
 use Rattle.best_fit.proofs.join.Statement.{statement}
 use Rattle.best_fit.proofs.join.Tie as tie
 
-abbrev invariant-loop : tie.invariant-loop
-invariant-loop level count above₀ size free₀ x₀ above free x =
+abbrev invariant-loop-x : tie.invariant-loop-x
+invariant-loop-x level count above₀ size free₀ x₀ above free x =
     Filled (λ k. cond (joined (flagged level) k) 1 0) 0 512 x above × (free ≡ count_below x (joined (flagged level))) × (x ≤ size) × (size ≤ 512)
 
-abbrev decreases-loop : tie.decreases-loop
-decreases-loop level count above₀ size free₀ x₀ above free x = size - x
+abbrev decreases-loop-x : tie.decreases-loop-x
+decreases-loop-x level count above₀ size free₀ x₀ above free x = size - x
 
 -- the two halves, and both
-abbrev first : tie.After-pair invariant-loop decreases-loop → Bool
-first c = flagged c.before.before.before.before.before.args.level.now (2 * c.before.before.before.before.loop.x)
+abbrev first : tie.After-pair invariant-loop-x decreases-loop-x → Bool
+first c = flagged c.args.level.now (2 * c.loop-x.x)
 
-abbrev second : tie.After-pair invariant-loop decreases-loop → Bool
-second c = flagged c.before.before.before.before.before.args.level.now (2 * c.before.before.before.before.loop.x + 1)
+abbrev second : tie.After-pair invariant-loop-x decreases-loop-x → Bool
+second c = flagged c.args.level.now (2 * c.loop-x.x + 1)
 
-abbrev told : tie.After-pair invariant-loop decreases-loop → Bool
-told c = joined (flagged c.before.before.before.before.before.args.level.now) c.before.before.before.before.loop.x
+abbrev told : tie.After-pair invariant-loop-x decreases-loop-x → Bool
+told c = joined (flagged c.args.level.now) c.loop-x.x
 
-as_pair : (c : tie.After-pair invariant-loop decreases-loop) → c.pair.result ≡ pair_of (first c) (second c)
+as_pair : (c : tie.After-pair invariant-loop-x decreases-loop-x) → c.pair.result ≡ pair_of (first c) (second c)
 as_pair c =
-    let a = c.before.before.before.before.before in
-    c.pair.ensures ∙ pair_at a.args.count c.before.before.before.before.loop.x a.args.level.now a.requires.1 (omega arith)
+    c.pair.ensures ∙ pair_at c.args.count c.loop-x.x c.args.level.now c.requires.1 (omega arith)
 
-entry : (c : tie.After-pair invariant-loop decreases-loop) → (c.pair.result + 255) / 512 ≡ cond (told c) 1 0
+entry : (c : tie.After-pair invariant-loop-x decreases-loop-x) → (c.pair.result + 255) / 512 ≡ cond (told c) 1 0
 entry c = ap (λ (v : ℕ). (v + 255) / 512) (as_pair c) ∙ pair_both (first c) (second c)
 
-small : (c : tie.After-pair invariant-loop decreases-loop) → c.pair.result ≤ 257
+small : (c : tie.After-pair invariant-loop-x decreases-loop-x) → c.pair.result ≤ 257
 small c = omega (arith, as_pair c, pair_small (first c) (second c))
 
-loop-holds : tie.Need-loop-init invariant-loop decreases-loop
+loop-holds : tie.Need-loop-x-init invariant-loop-x decreases-loop-x
 loop-holds c = (filled_none c.requires.2, sym (count_none _), omega arith, omega arith)
 
-mul_pair : tie.Need-overflow-mul-pair invariant-loop decreases-loop
+mul_pair : tie.Need-overflow_mul-x invariant-loop-x decreases-loop-x
 mul_pair c = omega arith
 
-element_copy_out_pair : tie.Need-element-copy-out-pair invariant-loop decreases-loop
+element_copy_out_pair : tie.Need-bounds-level-x invariant-loop-x decreases-loop-x
 element_copy_out_pair c = omega arith
 
-mul_pair_2 : tie.Need-overflow-mul-pair-2 invariant-loop decreases-loop
+mul_pair_2 : tie.Need-overflow_mul-x-in-loop-x invariant-loop-x decreases-loop-x
 mul_pair_2 c = omega arith
 
-add_pair : tie.Need-overflow-add-pair invariant-loop decreases-loop
+add_pair : tie.Need-overflow_add-x invariant-loop-x decreases-loop-x
 add_pair c = omega arith
 
-element_copy_out_pair_2 : tie.Need-element-copy-out-pair-2 invariant-loop decreases-loop
+element_copy_out_pair_2 : tie.Need-bounds-level-x-in-loop-x invariant-loop-x decreases-loop-x
 element_copy_out_pair_2 c = omega arith
 
-pair_requires : tie.Need-pair-requires invariant-loop decreases-loop
+pair_requires : tie.Need-pair-requires invariant-loop-x decreases-loop-x
 pair_requires c κs =
-    let a = c.before.before.before.before in
-    let l = c.before.before.before.loop in
-    let f = flagged a.args.level.now in
-    let z = a.requires.1 in
+    let l = c.loop-x in
+    let f = flagged c.args.level.now in
+    let z = c.requires.1 in
     (omega (arith, z (2 * l.x) (omega arith), one_le (f (2 * l.x))), omega (arith, z (2 * l.x + 1) (omega arith), one_le (f (2 * l.x + 1))))
 
-add_entry : tie.Need-overflow-add-entry invariant-loop decreases-loop
+add_entry : tie.Need-overflow_add-entry invariant-loop-x decreases-loop-x
 add_entry c = omega (arith, small c)
 
-cast_above : tie.Need-overflow-cast-above invariant-loop decreases-loop
+cast_above : tie.Need-overflow_cast-above invariant-loop-x decreases-loop-x
 cast_above c = omega (arith, small c)
 
-element_write_above : tie.Need-element-write-above invariant-loop decreases-loop
+element_write_above : tie.Need-bounds-above-x invariant-loop-x decreases-loop-x
 element_write_above c = omega arith
 
-add_free : tie.Need-overflow-add-free invariant-loop decreases-loop
+add_free : tie.Need-overflow_add-free invariant-loop-x decreases-loop-x
 add_free c =
-    let l = c.before.before.before.before.loop in
-    let g = joined (flagged c.before.before.before.before.before.args.level.now) in
-    omega (arith, l.invariant.1, entry c, one_le (told c), count_le g l.x)
+    let l = c.loop-x in
+    let g = joined (flagged c.args.level.now) in
+    omega (arith, l.invariant.1, entry c.before, one_le (told c.before), count_le g l.x)
 
-add_x : tie.Need-overflow-add-x invariant-loop decreases-loop
+add_x : tie.Need-overflow_add-x-in-loop-x invariant-loop-x decreases-loop-x
 add_x c = omega arith
 
-loop-less : tie.Need-loop-smaller invariant-loop decreases-loop
+loop-less : tie.Need-loop-x-smaller invariant-loop-x decreases-loop-x
 loop-less c = omega arith
 
-loop-again : tie.Need-loop-preserved invariant-loop decreases-loop
+loop-again : tie.Need-loop-x-preserved invariant-loop-x decreases-loop-x
 loop-again c =
-    let l = c.before.before.before.before.loop in (
-      filled_next _ l.invariant.0 (omega arith) (entry c),
-      omega (arith, l.invariant.1, entry c, count_more (joined (flagged c.before.before.before.before.before.args.level.now)) l.x),
+    let l = c.loop-x in (
+      filled_next _ l.invariant.0 (omega arith) (entry c.before),
+      omega (arith, l.invariant.1, entry c.before, count_more (joined (flagged c.args.level.now)) l.x),
       omega arith,
       omega arith,
     )
 
-returns : tie.Need-returns invariant-loop decreases-loop
+returns : tie.Need-returns invariant-loop-x decreases-loop-x
 returns c =
-    let l = c.before.loop in
-    let e : l.x ≡ c.before.before.args.count = omega arith in
+    let l = c.loop-x in
+    let e : l.x ≡ c.args.count = omega arith in
     record { long = l.invariant.0.long; tells = λ x h. l.invariant.0.front x (omega arith); count = rw e at l.invariant.1 }
 
 pub join_spec : {M : Type 1} → statement M
 join_spec =
     tie.close
     (tie.spec
-    invariant-loop
-    decreases-loop
+    invariant-loop-x
+    decreases-loop-x
     loop-holds
     mul_pair
     element_copy_out_pair

@@ -9,4 +9,7 @@ unfolding tested
 returns c = passed _ _ refl refl
 
 pub gray_code_spec : {M : Type 1} → statement M
-gray_code_spec = tie.close (tie.spec returns)
+gray_code_spec =
+    tie.close
+    (tie.spec
+    returns)

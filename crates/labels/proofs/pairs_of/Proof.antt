@@ -6,66 +6,65 @@ use Rattle.labels.proofs.Pairs.{PairedTo, paired_none, paired_next, paired_all, 
 use Rattle.labels.proofs.pairs_of.Statement.{statement}
 use Rattle.labels.proofs.pairs_of.Tie as tie
 
-abbrev invariant-loop : tie.invariant-loop
-invariant-loop flags size above pairs₀ x₀ pairs x = PairedTo above flags x pairs × (x ≤ size)
+abbrev invariant-loop-x : tie.invariant-loop-x
+invariant-loop-x flags size above pairs₀ x₀ pairs x = PairedTo above flags x pairs × (x ≤ size)
 
-abbrev decreases-loop : tie.decreases-loop
-decreases-loop flags size above pairs₀ x₀ pairs x = size - x
+abbrev decreases-loop-x : tie.decreases-loop-x
+decreases-loop-x flags size above pairs₀ x₀ pairs x = size - x
 
-cast_above : tie.Need-overflow-cast-above invariant-loop decreases-loop
-cast_above c = omega (arith, c.struct_known.given)
+cast_above : tie.Need-overflow_cast-above invariant-loop-x decreases-loop-x
+cast_above c = omega (arith, c.struct_known-1.given)
 
-loop-holds : tie.Need-loop-init invariant-loop decreases-loop
+loop-holds : tie.Need-loop-x-init invariant-loop-x decreases-loop-x
 loop-holds c = (paired_none _ _, omega arith)
 
-add_loop : tie.Need-overflow-add-loop invariant-loop decreases-loop
-add_loop c = omega (arith, c.before.before.requires.within, c.before.struct_known.given)
+add_loop : tie.Need-overflow_add-x invariant-loop-x decreases-loop-x
+add_loop c = omega (arith, c.requires.within, c.struct_known-1.given)
 
 -- in a turn both nodes are within 1024, and the lower is one of the cube
-inside : (c : tie.In-loop invariant-loop decreases-loop)
-    → let a = c.before.before.before.args in
-    (c.before.loop.x < a.size) × (c.before.loop.x + a.step.0 < 1024)
-inside c = made _ _ _ c.loop-test.true
+inside : (c : tie.In-loop-x invariant-loop-x decreases-loop-x)
+    → let a = c.args in
+    (c.loop-x.x < a.size) × (c.loop-x.x + a.step.0 < 1024)
+inside c = made _ _ _ c.loop-x-test.true
 
-element_copy_out_pair : tie.Need-element-copy-out-pair invariant-loop decreases-loop
-element_copy_out_pair c = omega (arith, (inside c).1)
+element_copy_out_pair : tie.Need-bounds-flags-x invariant-loop-x decreases-loop-x
+element_copy_out_pair c = omega (arith, (inside c.before).1)
 
-add_pair : tie.Need-overflow-add-pair invariant-loop decreases-loop
-add_pair c = omega (arith, (inside c.before).1)
+add_pair : tie.Need-overflow_add-x-in-loop-x invariant-loop-x decreases-loop-x
+add_pair c = omega (arith, (inside c.before.before).1)
 
-element_copy_out_pair_2 : tie.Need-element-copy-out-pair-2 invariant-loop decreases-loop
-element_copy_out_pair_2 c = omega (arith, (inside c.before).1)
+element_copy_out_pair_2 : tie.Need-bounds-flags-x-in-loop-x invariant-loop-x decreases-loop-x
+element_copy_out_pair_2 c = omega (arith, (inside c.before.before).1)
 
-pair_requires : tie.Need-pair-requires invariant-loop decreases-loop
+pair_requires : tie.Need-pair-requires invariant-loop-x decreases-loop-x
 pair_requires c κs = search rules
 
-mul_pairs : tie.Need-overflow-mul-pairs invariant-loop decreases-loop
-mul_pairs c = omega (arith, (inside c.before.before.before).1)
+mul_pairs : tie.Need-offset_bounds-pairs-x invariant-loop-x decreases-loop-x
+mul_pairs c = omega (arith, (inside c.before.before.before.before).1)
 
-array_write_pairs : tie.Need-array-write-pairs invariant-loop decreases-loop
-array_write_pairs c = omega (arith, (inside c.before.before.before).1)
+array_write_pairs : tie.Need-bounds-pairs-x invariant-loop-x decreases-loop-x
+array_write_pairs c = omega (arith, (inside c.before.before.before.before).1)
 
-add_x : tie.Need-overflow-add-x invariant-loop decreases-loop
-add_x c = omega (arith, (inside c.before.before.before).1)
+add_x : tie.Need-overflow_add-x-in-loop-x-2 invariant-loop-x decreases-loop-x
+add_x c = omega (arith, (inside c.before.before.before.before).1)
 
-loop-less : tie.Need-loop-smaller invariant-loop decreases-loop
-loop-less c = omega (arith, (inside c.before.before.before).0)
+loop-less : tie.Need-loop-x-smaller invariant-loop-x decreases-loop-x
+loop-less c = omega (arith, (inside c.before.before.before.before).0)
 
-loop-again : tie.Need-loop-preserved invariant-loop decreases-loop
+loop-again : tie.Need-loop-x-preserved invariant-loop-x decreases-loop-x
 loop-again c =
-    let turn = c.before.before.before.before in
-    let h = inside c.before.before.before in
-    (paired_next turn.loop.invariant.0 c.pair.result (omega (arith, h.1)) c.pair.ensures.0 c.pair.ensures.1, omega (arith, h.0))
+    let h = inside c.before.before.before.before in
+    (paired_next c.loop-x.invariant.0 c.pair.result (omega (arith, h.1)) c.pair.ensures.0 c.pair.ensures.1, omega (arith, h.0))
 
-returns : tie.Need-returns invariant-loop decreases-loop
-returns c = paired_all c.before.loop.invariant.0 c.before.before.before.requires (all_made _ _ _ c.loop-test.false)
+returns : tie.Need-returns invariant-loop-x decreases-loop-x
+returns c = paired_all c.loop-x.invariant.0 c.requires (all_made _ _ _ c.loop-x-test.false)
 
 pub pairs_of_spec : {M : Type 1} → statement M
 pairs_of_spec =
     tie.close
     (tie.spec
-    invariant-loop
-    decreases-loop
+    invariant-loop-x
+    decreases-loop-x
     cast_above
     loop-holds
     add_loop

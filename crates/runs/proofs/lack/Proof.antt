@@ -3,11 +3,15 @@ use borrow.Author.Tests.{eq-eqb, ne_eqb}
 use Rattle.runs.proofs.lack.Statement.{statement}
 use Rattle.runs.proofs.lack.Tie as tie
 
-returns : tie.Need-returns
-returns c = simp (eq-eqb _ _ c.if1.true)
+returns : tie.Need-returns-then-flag-eq1
+returns c = simp (eq-eqb _ _ c.if-flag-eq1.true)
 
-returns_2 : tie.Need-returns-2
-returns_2 c = simp (ne_eqb _ _ c.if1.false)
+returns_2 : tie.Need-returns-else-flag-eq1
+returns_2 c = simp (ne_eqb _ _ c.if-flag-eq1.false)
 
 pub lack_spec : {M : Type 1} → statement M
-lack_spec = tie.close (tie.spec returns returns_2)
+lack_spec =
+    tie.close
+    (tie.spec
+    returns
+    returns_2)

@@ -13,40 +13,40 @@ use Rattle.runs.proofs.Levels.{Laid, laid_none, laid_next, twice, both_at, none_
 use Rattle.runs.proofs.next_level.Statement.{statement}
 use Rattle.runs.proofs.next_level.Tie as tie
 
-abbrev invariant-loop : tie.invariant-loop
-invariant-loop levels₀ n d before start size some₀ x₀ levels some x =
+abbrev invariant-loop-x : tie.invariant-loop-x
+invariant-loop-x levels₀ n d before start size some₀ x₀ levels some x =
     Laid levels₀ start (both_at levels₀ before size) x levels
     × (some ≡ 0 → (k : ℕ) → k < x → both_at levels₀ before size k ≡ 0)
     × (x ≤ size) × (before + size + size ≤ start) × (start + size ≤ 2048)
 
-abbrev decreases-loop : tie.decreases-loop
-decreases-loop levels₀ n d before start size some₀ x₀ levels some x = size - x
+abbrev decreases-loop-x : tie.decreases-loop-x
+decreases-loop-x levels₀ n d before start size some₀ x₀ levels some x = size - x
 
-sub_level_start : tie.Need-overflow-sub-level-start invariant-loop decreases-loop
+sub_level_start : tie.Need-overflow_sub-d invariant-loop-x decreases-loop-x
 sub_level_start c = omega arith
 
-level_start_requires : tie.Need-level-start-requires invariant-loop decreases-loop
+level_start_requires : tie.Need-level_start-before-requires invariant-loop-x decreases-loop-x
 level_start_requires c κs = (omega arith, omega arith)
 
-cast_before : tie.Need-overflow-cast-before invariant-loop decreases-loop
+cast_before : tie.Need-overflow_cast-before invariant-loop-x decreases-loop-x
 cast_before c = omega arith
 
-level_start_requires_2 : tie.Need-level-start-requires-2 invariant-loop decreases-loop
+level_start_requires_2 : tie.Need-level_start-start-requires invariant-loop-x decreases-loop-x
 level_start_requires_2 c κs = (omega arith, omega arith)
 
-cast_start : tie.Need-overflow-cast-start invariant-loop decreases-loop
+cast_start : tie.Need-overflow_cast-start invariant-loop-x decreases-loop-x
 cast_start c = omega arith
 
-sub_pow2 : tie.Need-overflow-sub-pow2 invariant-loop decreases-loop
+sub_pow2 : tie.Need-overflow_sub-n invariant-loop-x decreases-loop-x
 sub_pow2 c = omega arith
 
-pow2_requires : tie.Need-pow2-requires invariant-loop decreases-loop
+pow2_requires : tie.Need-pow2-size-requires invariant-loop-x decreases-loop-x
 pow2_requires c κs = omega arith
 
-cast_size : tie.Need-overflow-cast-size invariant-loop decreases-loop
+cast_size : tie.Need-overflow_cast-size invariant-loop-x decreases-loop-x
 cast_size c = omega arith
 
-loop-holds : tie.Need-loop-init invariant-loop decreases-loop
+loop-holds : tie.Need-loop-x-init invariant-loop-x decreases-loop-x
 loop-holds c =
     let a = c.before.before.before.args in
     let p = c.before.before.before.requires in
@@ -55,65 +55,65 @@ loop-holds c =
       laid_none,
       (λ e k h. absurd (omega arith)),
       omega arith,
-      omega (arith, two, small, c.before.before.level-start.ensures, c.before.level-start2.ensures, c.pow2.ensures),
-      omega (arith, two, small, c.before.level-start2.ensures, c.pow2.ensures),
+      omega (arith, two, small, c.before.before.level_start-before.ensures, c.before.level_start-start.ensures, c.pow2-size.ensures),
+      omega (arith, two, small, c.before.level_start-start.ensures, c.pow2-size.ensures),
     )
 
-add_both : tie.Need-overflow-add-both invariant-loop decreases-loop
+add_both : tie.Need-overflow_add-before invariant-loop-x decreases-loop-x
 add_both c = omega arith
 
-element_copy_out_both : tie.Need-element-copy-out-both invariant-loop decreases-loop
+element_copy_out_both : tie.Need-bounds-levels-before invariant-loop-x decreases-loop-x
 element_copy_out_both c = omega arith
 
-add_both_2 : tie.Need-overflow-add-both-2 invariant-loop decreases-loop
+add_both_2 : tie.Need-overflow_add-before-in-loop-x invariant-loop-x decreases-loop-x
 add_both_2 c = omega arith
 
-add_both_3 : tie.Need-overflow-add-both-3 invariant-loop decreases-loop
+add_both_3 : tie.Need-overflow_add-before-in-loop-x-2 invariant-loop-x decreases-loop-x
 add_both_3 c = omega arith
 
-element_copy_out_both_2 : tie.Need-element-copy-out-both-2 invariant-loop decreases-loop
+element_copy_out_both_2 : tie.Need-bounds-levels-before-in-loop-x invariant-loop-x decreases-loop-x
 element_copy_out_both_2 c = omega arith
 
-both_requires : tie.Need-both-requires invariant-loop decreases-loop
+both_requires : tie.Need-both-flag-requires invariant-loop-x decreases-loop-x
 both_requires c κs = search rules
 
-add_levels : tie.Need-overflow-add-levels invariant-loop decreases-loop
+add_levels : tie.Need-overflow_add-levels invariant-loop-x decreases-loop-x
 add_levels c = omega arith
 
-element_write_levels : tie.Need-element-write-levels invariant-loop decreases-loop
+element_write_levels : tie.Need-bounds-levels-start invariant-loop-x decreases-loop-x
 element_write_levels c = omega arith
 
-add_x : tie.Need-overflow-add-x invariant-loop decreases-loop
+add_x : tie.Need-overflow_add-x invariant-loop-x decreases-loop-x
 add_x c = omega arith
 
-loop-less : tie.Need-loop-smaller invariant-loop decreases-loop
+loop-less : tie.Need-loop-x-smaller invariant-loop-x decreases-loop-x
 loop-less c = omega arith
 
-loop-again : tie.Need-loop-preserved invariant-loop decreases-loop
+loop-again : tie.Need-loop-x-preserved invariant-loop-x decreases-loop-x
 loop-again c =
     let at = c.before.before.before.before in
-    let l = at.loop in
+    let l = at.loop-x in
     let start = at.before.before.before.before in
     let ls = start.args.levels.now in
-    let from = at.before.before.before.level-start.result in
-    let size = at.before.pow2.result in
-    let inside : at.before.before.level-start2.result + l.x < length ls = omega arith in
-    let made : c.both.result ≡ both_at ls from size l.x =
-    c.both.ensures ∙ ap₂ both_flags (l.invariant.0.below (from + l.x) (omega arith)) (l.invariant.0.below (from + size + l.x) (omega arith)) in (
+    let from = at.before.before.before.level_start-before.result in
+    let size = at.before.pow2-size.result in
+    let inside : at.before.before.level_start-start.result + l.x < length ls = omega arith in
+    let made : c.both-flag.result ≡ both_at ls from size l.x =
+    c.both-flag.ensures ∙ ap₂ both_flags (l.invariant.0.below (from + l.x) (omega arith)) (l.invariant.0.below (from + size + l.x) (omega arith)) in (
       laid_next _ l.invariant.0 inside made,
-      none_more (both_at ls from size) l.some l.x c.both.result made l.invariant.1,
+      none_more (both_at ls from size) l.some l.x c.both-flag.result made l.invariant.1,
       omega arith,
       omega arith,
       omega arith,
     )
 
-returns : tie.Need-returns invariant-loop decreases-loop
+returns : tie.Need-returns invariant-loop-x decreases-loop-x
 returns c =
-    let l = c.before.loop in
+    let l = c.before.loop-x in
     let a = c.before.before.before.before.before.args in
-    let from = c.before.before.before.before.level-start.ensures in
-    let start = c.before.before.before.level-start2.ensures in
-    let size = c.before.before.pow2.ensures in
+    let from = c.before.before.before.before.level_start-before.ensures in
+    let start = c.before.before.before.level_start-start.ensures in
+    let size = c.before.before.pow2-size.ensures in
     let whole : l.x ≡ 2 ^ (a.n - a.d) = omega (arith, size) in
     next_made a.n a.d (rw (from, start, size, whole) at l.invariant.0) l.some (rw (from, size, whole) at l.invariant.1)
 
@@ -121,8 +121,8 @@ pub next_level_spec : {M : Type 1} → statement M
 next_level_spec =
     tie.close
     (tie.spec
-    invariant-loop
-    decreases-loop
+    invariant-loop-x
+    decreases-loop-x
     sub_level_start
     level_start_requires
     cast_before
