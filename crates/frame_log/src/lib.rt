@@ -30,7 +30,7 @@ pub enum Next {
 }
 
 // What one step of a log does.
-#[derive(Drop)]
+#[derive(Clone, Copy)]
 pub enum Step {
     // A line, and the log goes on at the cursor.
     Line(Outcome, Cursor),

@@ -11,7 +11,7 @@ use hypercube::{Node, Reply};
 
 // A cube: its dimension, the map, and the holder and the condition of each of 1024 nodes (document 01, "Node and record"), with the star bits of the
 // grant that holds it (document 02, (f)).
-#[derive(Drop)]
+#[derive(Clone, Copy)]
 pub struct State {
     pub n: u8,
     pub map: [u8; 10],
@@ -33,7 +33,7 @@ pub enum Call {
 }
 
 // The state after a call, and its reply.
-#[derive(Drop)]
+#[derive(Clone, Copy)]
 pub struct Step {
     pub state: State,
     pub reply: Reply,

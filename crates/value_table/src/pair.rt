@@ -5,7 +5,7 @@ use hypercube::{Node, Reply};
 use state::{Call, State, Step};
 
 // What a frame call gave.
-#[derive(Drop)]
+#[derive(Clone, Copy)]
 struct Given {
     number: u32,
     reply: [u8; 12],

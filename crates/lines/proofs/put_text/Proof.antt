@@ -6,48 +6,48 @@ use Rattle.lines.proofs.Puts.{Storing, store_none, store_next, store_end}
 use Rattle.lines.proofs.put_text.Statement.{statement}
 use Rattle.lines.proofs.put_text.Tie as tie
 
-abbrev invariant-loop : tie.invariant-loop
-invariant-loop out₀ at text i₀ out i = Storing text out₀ at out i
+abbrev invariant-loop-i : tie.invariant-loop-i
+invariant-loop-i out₀ at text i₀ out i = Storing text out₀ at out i
 
-abbrev decreases-loop : tie.decreases-loop
-decreases-loop out₀ at text i₀ out i = length text - i
+abbrev decreases-loop-i : tie.decreases-loop-i
+decreases-loop-i out₀ at text i₀ out i = length text - i
 
-loop-holds : tie.Need-loop-init invariant-loop decreases-loop
+loop-holds : tie.Need-loop-i-init invariant-loop-i decreases-loop-i
 loop-holds c = store_none _ _ _
 
-shared_slice_read_out : tie.Need-shared-slice-read-out invariant-loop decreases-loop
+shared_slice_read_out : tie.Need-bounds-text-i invariant-loop-i decreases-loop-i
 shared_slice_read_out c = omega arith
 
-add_out : tie.Need-overflow-add-out invariant-loop decreases-loop
+add_out : tie.Need-overflow_add-out invariant-loop-i decreases-loop-i
 add_out c = omega arith
 
-slice_write_out : tie.Need-slice-write-out invariant-loop decreases-loop
+slice_write_out : tie.Need-bounds-out-at invariant-loop-i decreases-loop-i
 slice_write_out c = omega arith
 
-add_i : tie.Need-overflow-add-i invariant-loop decreases-loop
+add_i : tie.Need-overflow_add-i invariant-loop-i decreases-loop-i
 add_i c = omega arith
 
-loop-less : tie.Need-loop-smaller invariant-loop decreases-loop
+loop-less : tie.Need-loop-i-smaller invariant-loop-i decreases-loop-i
 loop-less c = omega arith
 
-loop-again : tie.Need-loop-preserved invariant-loop decreases-loop
-loop-again c = let l = c.before.before.loop in store_next _ _ _ l.out l.i (omega arith) l.invariant
+loop-again : tie.Need-loop-i-preserved invariant-loop-i decreases-loop-i
+loop-again c = let l = c.loop-i in store_next _ _ _ l.out l.i (omega arith) l.invariant
 
-add_result : tie.Need-overflow-add-result invariant-loop decreases-loop
+add_result : tie.Need-overflow_add-result invariant-loop-i decreases-loop-i
 add_result c = omega arith
 
-same_length : tie.Need-same-length invariant-loop decreases-loop
+same_length : tie.Need-shape_of-out invariant-loop-i decreases-loop-i
 same_length c = omega arith
 
-returns : tie.Need-returns invariant-loop decreases-loop
-returns c = let l = c.before.loop in store_end _ _ _ l.out l.i (omega arith) l.invariant
+returns : tie.Need-returns invariant-loop-i decreases-loop-i
+returns c = let l = c.loop-i in store_end _ _ _ l.out l.i (omega arith) l.invariant
 
 pub put_text_spec : {M : Type 1} → statement M
 put_text_spec =
     tie.close
     (tie.spec
-    invariant-loop
-    decreases-loop
+    invariant-loop-i
+    decreases-loop-i
     loop-holds
     shared_slice_read_out
     add_out

@@ -8,48 +8,48 @@ use Rattle.hypercube.proofs.Filled.{filled_none, filled_next, filled_all}
 use Rattle.record.proofs.load_words.Statement.{statement}
 use Rattle.record.proofs.load_words.Tie as tie
 
-abbrev invariant-loop : tie.invariant-loop
-invariant-loop bytes at words₀ x₀ words x = Filled (λ k. word bytes (at + 2 * k)) 0 1024 x words
+abbrev invariant-loop-x : tie.invariant-loop-x
+invariant-loop-x bytes at words₀ x₀ words x = Filled (λ k. word bytes (at + 2 * k)) 0 1024 x words
 
-abbrev decreases-loop : tie.decreases-loop
-decreases-loop bytes at words₀ x₀ words x = 1024 - x
+abbrev decreases-loop-x : tie.decreases-loop-x
+decreases-loop-x bytes at words₀ x₀ words x = 1024 - x
 
-loop-holds : tie.Need-loop-init invariant-loop decreases-loop
+loop-holds : tie.Need-loop-x-init invariant-loop-x decreases-loop-x
 loop-holds c = filled_none refl
 
-mul_word : tie.Need-overflow-mul-word invariant-loop decreases-loop
+mul_word : tie.Need-overflow_mul-x invariant-loop-x decreases-loop-x
 mul_word c = omega arith
 
-add_word : tie.Need-overflow-add-word invariant-loop decreases-loop
+add_word : tie.Need-overflow_add-at invariant-loop-x decreases-loop-x
 add_word c = omega arith
 
-word_requires : tie.Need-word-requires invariant-loop decreases-loop
+word_requires : tie.Need-word-requires invariant-loop-x decreases-loop-x
 word_requires c κs = omega arith
 
-mul_words : tie.Need-overflow-mul-words invariant-loop decreases-loop
+mul_words : tie.Need-offset_bounds-words-x invariant-loop-x decreases-loop-x
 mul_words c = omega arith
 
-array_write_words : tie.Need-array-write-words invariant-loop decreases-loop
+array_write_words : tie.Need-bounds-words-x invariant-loop-x decreases-loop-x
 array_write_words c = omega arith
 
-add_x : tie.Need-overflow-add-x invariant-loop decreases-loop
+add_x : tie.Need-overflow_add-x invariant-loop-x decreases-loop-x
 add_x c = omega arith
 
-loop-less : tie.Need-loop-smaller invariant-loop decreases-loop
+loop-less : tie.Need-loop-x-smaller invariant-loop-x decreases-loop-x
 loop-less c = omega arith
 
-loop-again : tie.Need-loop-preserved invariant-loop decreases-loop
-loop-again c = filled_next _ c.before.before.loop.invariant c.before.loop-test.true c.word.ensures
+loop-again : tie.Need-loop-x-preserved invariant-loop-x decreases-loop-x
+loop-again c = filled_next _ c.loop-x.invariant c.loop-x-test.true c.word.ensures
 
-returns : tie.Need-returns invariant-loop decreases-loop
-returns c = filled_all c.before.loop.invariant c.loop-test.false
+returns : tie.Need-returns invariant-loop-x decreases-loop-x
+returns c = filled_all c.loop-x.invariant c.loop-x-test.false
 
 pub load_words_spec : {M : Type 1} → statement M
 load_words_spec =
     tie.close
     (tie.spec
-    invariant-loop
-    decreases-loop
+    invariant-loop-x
+    decreases-loop-x
     loop-holds
     mul_word
     add_word

@@ -25,45 +25,45 @@ invariant-walk flags levels n d low alpha before digits l tried₀ p₀ tried p 
 abbrev decreases-walk : tie.decreases-walk
 decreases-walk flags levels n d low alpha before digits l tried₀ p₀ tried p = digits - p
 
-sub_digits : tie.Need-overflow-sub-digits invariant-walk decreases-walk
+sub_digits : tie.Need-overflow_sub-digits invariant-walk decreases-walk
 sub_digits c = omega arith
 
-sub_l : tie.Need-overflow-sub-l invariant-walk decreases-walk
+sub_l : tie.Need-overflow_sub-l invariant-walk decreases-walk
 sub_l c = omega arith
 
 walk_holds : tie.Need-walk-init invariant-walk decreases-walk
 walk_holds c = (starts _ _ (left_start _ _ 1 (omega arith)), omega arith, omega arith)
 
 digit_requires : tie.Need-digit-requires invariant-walk decreases-walk
-digit_requires c κs = omega (arith, c.before.before.requires.0.0.narrow, c.before.before.requires.0.0.sum)
+digit_requires c κs = omega (arith, c.requires.0.0.narrow, c.requires.0.0.sum)
 
 -- digit p is 0
-abbrev start : tie.Then2 invariant-walk decreases-walk → tie.Start invariant-walk decreases-walk
+abbrev start : tie.Then-digit-eq0 invariant-walk decreases-walk → tie.Start invariant-walk decreases-walk
 start c = c.before.before.before.before
 
-zero : (c : tie.Then2 invariant-walk decreases-walk) → bit (start c).args.alpha c.before.before.before.walk.p ≡ 0
-zero c = sym c.before.digit.ensures ∙ c.if2.true
+zero : (c : tie.Then-digit-eq0 invariant-walk decreases-walk) → bit (start c).args.alpha c.walk.p ≡ 0
+zero c = sym c.digit.ensures ∙ c.if-digit-eq0.true
 
-place : (c : tie.Then2 invariant-walk decreases-walk) → c.before.before.before.walk.p < (start c).args.n - (start c).args.low
+place : (c : tie.Then-digit-eq0 invariant-walk decreases-walk) → c.walk.p < (start c).args.n - (start c).args.low
 place c = omega arith
 
-other : (c : tie.Then2 invariant-walk decreases-walk)
+other : (c : tie.Then-digit-eq0 invariant-walk decreases-walk)
     → Row (start c).args.n (start c).args.d ((start c).args.low - (start c).args.d) ((start c).args.n - (start c).args.low)
-    ((start c).args.alpha + 2 ^ c.before.before.before.walk.p)
+    ((start c).args.alpha + 2 ^ c.walk.p)
 other c = other_row (start c).requires.0.0 (place c) (zero c)
 
-add_tried : tie.Need-overflow-add-tried invariant-walk decreases-walk
+add_tried : tie.Need-overflow_add-tried invariant-walk decreases-walk
 add_tried c =
     omega (
       arith,
-      counts c.before.before.before.walk.invariant.0 (_ ∷ []) _ (digit-zero _ _ _ _ _ (place c) (zero c)),
+      counts c.walk.invariant.0 (_ ∷ []) _ (digit-zero _ _ _ _ _ (place c) (zero c)),
       (start c).requires.1.1.1,
     )
 
 pow2_requires : tie.Need-pow2-requires invariant-walk decreases-walk
 pow2_requires c κs = omega (arith, (start c).requires.0.0.narrow)
 
-add_block_at : tie.Need-overflow-add-block-at invariant-walk decreases-walk
+add_block_at : tie.Need-overflow_add-alpha invariant-walk decreases-walk
 add_block_at c = omega (arith, c.pow2.ensures, alpha_lt (other c.before))
 
 -- its other block lies in the level, and is as the level tells it
@@ -83,58 +83,54 @@ module _ (c : tie.Start invariant-walk decreases-walk) where
       c.requires.1.0)
       ∙ sym (rw e at r)
 
-block_at_requires : tie.Need-block-at-requires invariant-walk decreases-walk
+block_at_requires : tie.Need-block_at-requires invariant-walk decreases-walk
 block_at_requires c κs =
     let at = start c.before in
     (omega (arith, at.pre.0.0.narrow), at.pre.0.0.narrow, rw c.pow2.ensures (inside at (other c.before)))
 
-tree_member_requires : tie.Need-tree-member-requires invariant-walk decreases-walk
+tree_member_requires : tie.Need-tree_member-requires invariant-walk decreases-walk
 tree_member_requires c κs =
-    let tried = c.before.before.before in
-    ((omega arith, (start tried).requires.0.0.narrow), (member_room (start tried).requires.0.0 (place tried) (zero tried)).0)
+    ((omega arith, (start c.before.before.before).requires.0.0.narrow), (member_room (start c.before.before.before).requires.0.0 (place c.before.before.before) (zero c.before.before.before)).0)
 
-add_p : tie.Need-overflow-add-p invariant-walk decreases-walk
-add_p c = omega (arith, c.before.before.before.before.requires.0.0.narrow)
+add_p : tie.Need-overflow_add-p invariant-walk decreases-walk
+add_p c = omega (arith, c.requires.0.0.narrow)
 
 walk_less : tie.Need-walk-smaller invariant-walk decreases-walk
 walk_less c = omega arith
 
 walk_again : tie.Need-walk-preserved invariant-walk decreases-walk
 walk_again c =
-    let at = c.before.before.before in
-    let begun = at.before in
     ⊎_elim
     (λ w.
-    let z : bit begun.args.alpha at.walk.p ≡ 0 = sym c.before.digit.ensures ∙ w.0.taken in
-    rw w.4 (
-      misses at.walk.invariant.0 _ _ (digit-zero _ _ _ _ _ (omega arith) z)
-          (one_fails _ refl _ (member_tested begun.requires.0.0 _ _ (omega arith) begun.requires.1.1.0
-          (tested begun _ _ (other_row begun.requires.0.0 (omega arith) z) (ap (λ (x : ℕ). begun.args.alpha + x) w.1.ensures)
-          w.2.ensures ∙ w.3.left))),
+    let z : bit c.args.alpha c.walk.p ≡ 0 = sym c.digit.ensures ∙ w.if-digit-eq0.true in
+    rw w.FIELD4 (
+      misses c.walk.invariant.0 _ _ (digit-zero _ _ _ _ _ (omega arith) z)
+          (one_fails _ refl _ (member_tested c.requires.0.0 _ _ (omega arith) c.requires.1.1.0
+          (tested c.before.before.before.before _ _ (other_row c.requires.0.0 (omega arith) z) (ap (λ (x : ℕ). c.args.alpha + x) w.pow2.ensures)
+          w.block_at.ensures ∙ w.FIELD3.false))),
       omega arith,
       omega arith,
     ))
     (λ w.
-    rw w.1 (
-      stays at.walk.invariant.0 (digit_one _ _ _ _ _ (omega arith) (λ z. w.0.left (c.before.digit.ensures ∙ z))),
+    rw w.tried-is (
+      stays c.walk.invariant.0 (digit_one _ _ _ _ _ (omega arith) (λ z. w.if-digit-eq0.false (c.digit.ensures ∙ z))),
       omega arith,
       omega arith,
     ))
-    c.if2.branch
+    c.if-digit-eq0.branch-raw
 
-returns : tie.Need-returns invariant-walk decreases-walk
-returns c = ends c.before.walk.invariant.0 (left_done _ _ _ _ c.if1.true)
+returns : tie.Need-returns-then-digits-p invariant-walk decreases-walk
+returns c = ends c.walk.invariant.0 (left_done _ _ _ _ c.if-digits-p.true)
 
-returns_2 : tie.Need-returns-2 invariant-walk decreases-walk
+returns_2 : tie.Need-returns-then-block_at invariant-walk decreases-walk
 returns_2 c =
-    let tried = c.before.before.before.before in
-    hits tried.before.before.before.walk.invariant.0 _ _ (digit-zero _ _ _ _ _ (place tried) (zero tried))
+    hits c.walk.invariant.0 _ _ (digit-zero _ _ _ _ _ (place c.before.before.before.before) (zero c.before.before.before.before))
     (one_passes _ c.tree_member_lem.ensures _
     (ap (is_free _) c.tree_member_lem.ensures
-    ∙ member_tested (start tried).requires.0.0 _ _ (place tried) (start tried).requires.1.1.0
-    (tested (start tried) _ _ (other tried) (ap (λ (x : ℕ). (start tried).args.alpha + x) c.before.before.before.pow2.ensures)
-    c.before.before.block_at.ensures
-    ∙ c.before.if3.true)))
+    ∙ member_tested (start c.before.before.before.before).requires.0.0 _ _ (place c.before.before.before.before) (start c.before.before.before.before).requires.1.1.0
+    (tested (start c.before.before.before.before) _ _ (other c.before.before.before.before) (ap (λ (x : ℕ). (start c.before.before.before.before).args.alpha + x) c.pow2.ensures)
+    c.block_at.ensures
+    ∙ c.if-block_at.true)))
 
 pub row_walk_spec : {M : Type 1} → statement M
 row_walk_spec =

@@ -7,21 +7,21 @@ use Rattle.walks.proofs.Trees.{tree_few}
 use Rattle.walks.proofs.tree_count.Statement.{statement}
 use Rattle.walks.proofs.tree_count.Tie as tie
 
-sub_result : tie.Need-overflow-sub-result
+sub_result : tie.Need-overflow_sub-result
 sub_result c = search rules
 
-add_result : tie.Need-overflow-add-result
+add_result : tie.Need-overflow_add-result
 add_result c = search rules
 
-sub_pow2 : tie.Need-overflow-sub-pow2
+sub_pow2 : tie.Need-overflow_sub-n
 sub_pow2 c = search rules
 
 pow2_requires : tie.Need-pow2-requires
 pow2_requires c κs = search rules
 
-mul_result : tie.Need-overflow-mul-result
+mul_result : tie.Need-overflow_mul-result
 mul_result c =
-    let a = c.before.args in
+    let a = c.args in
     rw c.pow2.ensures (omega (
       arith,
       tree_count a.n a.k (omega arith) (omega arith),
@@ -30,8 +30,15 @@ mul_result c =
     ))
 
 returns : tie.Need-returns
-returns c = rw c.pow2.ensures (sym (tree_count c.before.args.n c.before.args.k (omega arith) (omega arith)))
+returns c = rw c.pow2.ensures (sym (tree_count c.args.n c.args.k (omega arith) (omega arith)))
 
 pub tree_count_spec : {M : Type 1} → statement M
 tree_count_spec =
-    tie.close (tie.spec sub_result add_result sub_pow2 pow2_requires mul_result returns)
+    tie.close
+    (tie.spec
+    sub_result
+    add_result
+    sub_pow2
+    pow2_requires
+    mul_result
+    returns)

@@ -30,13 +30,13 @@ use Rattle.walks.proofs.tree_rows.Tie as tie
 abbrev row : ℕ → ℕ → ℕ → List Subcube
 row n low α = places n 0 low α (n - low) 0
 
-abbrev invariant-loop : tie.invariant-loop
-invariant-loop flags n low digits end tried₀ seen alpha p₀ tried p =
+abbrev invariant-loop-p : tie.invariant-loop-p
+invariant-loop-p flags n low digits end tried₀ seen alpha p₀ tried p =
     Stands (flagged flags) (tree n (suc low)) 0 (left (at_zero (tree_member n 0 low alpha) alpha) digits p (left (row n low) end (alpha + 1) [])) tried
     × (p ≤ digits)
 
-abbrev decreases-loop : tie.decreases-loop
-decreases-loop flags n low digits end tried₀ seen alpha p₀ tried p = digits - p
+abbrev decreases-loop-p : tie.decreases-loop-p
+decreases-loop-p flags n low digits end tried₀ seen alpha p₀ tried p = digits - p
 
 abbrev invariant-walk : tie.invariant-walk
 invariant-walk flags n low digits end tried₀ seen₀ alpha₀ tried seen alpha =
@@ -45,76 +45,76 @@ invariant-walk flags n low digits end tried₀ seen₀ alpha₀ tried seen alpha
 abbrev decreases-walk : tie.decreases-walk
 decreases-walk flags n low digits end tried₀ seen₀ alpha₀ tried seen alpha = end - alpha
 
-sub_digits : tie.Need-overflow-sub-digits invariant-loop decreases-loop invariant-walk decreases-walk
+sub_digits : tie.Need-overflow_sub-digits invariant-loop-p decreases-loop-p invariant-walk decreases-walk
 sub_digits c = omega arith
 
-pow2_requires : tie.Need-pow2-requires invariant-loop decreases-loop invariant-walk decreases-walk
+pow2_requires : tie.Need-pow2-end-requires invariant-loop-p decreases-loop-p invariant-walk decreases-walk
 pow2_requires c κs = omega arith
 
-walk_holds : tie.Need-walk-init invariant-loop decreases-loop invariant-walk decreases-walk
-walk_holds c = (starts _ 0 (left_start _ _ 0 (omega (arith, c.pow2.ensures))), omega arith, omega arith)
+walk_holds : tie.Need-walk-init invariant-loop-p decreases-loop-p invariant-walk decreases-walk
+walk_holds c = (starts _ 0 (left_start _ _ 0 (omega (arith, c.pow2-end.ensures))), omega arith, omega arith)
 
 -- a row that is left to walk
-abbrev test : tie.Else2 invariant-loop decreases-loop invariant-walk decreases-walk → tie.Else1 invariant-loop decreases-loop invariant-walk decreases-walk
+abbrev test : tie.Else-none_at invariant-loop-p decreases-loop-p invariant-walk decreases-walk → tie.Else-end-alpha invariant-loop-p decreases-loop-p invariant-walk decreases-walk
 test c = c.before.before
 
-abbrev begun : tie.Else1 invariant-loop decreases-loop invariant-walk decreases-walk → tie.Start invariant-loop decreases-loop invariant-walk decreases-walk
+abbrev begun : tie.Else-end-alpha invariant-loop-p decreases-loop-p invariant-walk decreases-walk → tie.Start invariant-loop-p decreases-loop-p invariant-walk decreases-walk
 begun c = c.before.before.before
 
-abbrev start : tie.Else2 invariant-loop decreases-loop invariant-walk decreases-walk → tie.Start invariant-loop decreases-loop invariant-walk decreases-walk
+abbrev start : tie.Else-none_at invariant-loop-p decreases-loop-p invariant-walk decreases-walk → tie.Start invariant-loop-p decreases-loop-p invariant-walk decreases-walk
 start c = begun (test c)
 
-abbrev α_of : tie.Else2 invariant-loop decreases-loop invariant-walk decreases-walk → ℕ
+abbrev α_of : tie.Else-none_at invariant-loop-p decreases-loop-p invariant-walk decreases-walk → ℕ
 α_of c = (test c).before.walk.alpha
 
-abbrev Row-at : tie.Else2 invariant-loop decreases-loop invariant-walk decreases-walk → ℕ → Type 0
+abbrev Row-at : tie.Else-none_at invariant-loop-p decreases-loop-p invariant-walk decreases-walk → ℕ → Type 0
 Row-at c = Row (start c).args.n 0 (start c).args.low ((start c).args.n - (start c).args.low + 0)
 
-row_at : (c : tie.Else2 invariant-loop decreases-loop invariant-walk decreases-walk) → Row-at c (α_of c)
+row_at : (c : tie.Else-none_at invariant-loop-p decreases-loop-p invariant-walk decreases-walk) → Row-at c (α_of c)
 row_at c =
     let z : (start c).args.n - (start c).args.low + 0 ≡ (start c).args.n - (start c).args.low = omega arith in
     record { narrow = omega arith; sum = omega arith; value = rw z (omega (arith, (test c).before.before.pow2.ensures)) }
 
-few : (c : tie.Start invariant-loop decreases-loop invariant-walk decreases-walk) → 0 + length (tree c.args.n (suc c.args.low)) ≤ 11264
+few : (c : tie.Start invariant-loop-p decreases-loop-p invariant-walk decreases-walk) → 0 + length (tree c.args.n (suc c.args.low)) ≤ 11264
 few c = omega (arith, tree_few c.args.n (suc c.args.low) (λ z. absurd (omega arith)) (omega arith) (omega arith))
 
-end_le : (c : tie.After-pow2 invariant-loop decreases-loop invariant-walk decreases-walk) → c.pow2.result ≤ 1024
-end_le c = omega (arith, c.pow2.ensures, pow_mono {i = c.before.args.n - c.before.args.low} {j = 10} (omega arith))
+end_le : (c : tie.After-pow2-end invariant-loop-p decreases-loop-p invariant-walk decreases-walk) → c.pow2-end.result ≤ 1024
+end_le c = omega (arith, c.pow2-end.ensures, pow_mono {i = c.args.n - c.args.low} {j = 10} (omega arith))
 
-block_free_requires : tie.Need-block-free-requires invariant-loop decreases-loop invariant-walk decreases-walk
+block_free_requires : tie.Need-block_free-requires invariant-loop-p decreases-loop-p invariant-walk decreases-walk
 block_free_requires c κs = ((omega arith, omega arith), block_room (row_at c))
 
-add_seen : tie.Need-overflow-add-seen invariant-loop decreases-loop invariant-walk decreases-walk
+add_seen : tie.Need-overflow_add-seen invariant-loop-p decreases-loop-p invariant-walk decreases-walk
 add_seen c = omega (arith, end_le c.before.before.before.before.before.before)
 
-none_at_requires : tie.Need-none-at-requires invariant-loop decreases-loop invariant-walk decreases-walk
+none_at_requires : tie.Need-none_at-requires invariant-loop-p decreases-loop-p invariant-walk decreases-walk
 none_at_requires c κs = (omega arith, omega arith)
 
-none_at_requires_2 : tie.Need-none-at-requires-2 invariant-loop decreases-loop invariant-walk decreases-walk
+none_at_requires_2 : tie.Need-none_at-requires-then-block_free invariant-loop-p decreases-loop-p invariant-walk decreases-walk
 none_at_requires_2 c κs = (omega arith, omega arith)
 
-add_tree_count : tie.Need-overflow-add-tree-count invariant-loop decreases-loop invariant-walk decreases-walk
+add_tree_count : tie.Need-overflow_add-low invariant-loop-p decreases-loop-p invariant-walk decreases-walk
 add_tree_count c = omega arith
 
-tree_count_requires : tie.Need-tree-count-requires invariant-loop decreases-loop invariant-walk decreases-walk
+tree_count_requires : tie.Need-tree_count-requires invariant-loop-p decreases-loop-p invariant-walk decreases-walk
 tree_count_requires c κs = (omega arith, omega arith, omega arith)
 
-add_tree_count_2 : tie.Need-overflow-add-tree-count-2 invariant-loop decreases-loop invariant-walk decreases-walk
+add_tree_count_2 : tie.Need-overflow_add-low-then-none_at-2 invariant-loop-p decreases-loop-p invariant-walk decreases-walk
 add_tree_count_2 c = omega arith
 
-tree_count_requires_2 : tie.Need-tree-count-requires-2 invariant-loop decreases-loop invariant-walk decreases-walk
+tree_count_requires_2 : tie.Need-tree_count-requires-then-none_at-2 invariant-loop-p decreases-loop-p invariant-walk decreases-walk
 tree_count_requires_2 c κs = (omega arith, omega arith, omega arith)
 
 -- where their block is free, and not all rows are known to have none
-abbrev row_of : tie.Else4 invariant-loop decreases-loop invariant-walk decreases-walk → tie.Else2 invariant-loop decreases-loop invariant-walk decreases-walk
+abbrev row_of : tie.Else-none_at-2 invariant-loop-p decreases-loop-p invariant-walk decreases-walk → tie.Else-none_at invariant-loop-p decreases-loop-p invariant-walk decreases-walk
 row_of c = c.before.before.before.before
 
-lower : (c : tie.Else4 invariant-loop decreases-loop invariant-walk decreases-walk)
+lower : (c : tie.Else-none_at-2 invariant-loop-p decreases-loop-p invariant-walk decreases-walk)
     → is_free (flagged (start (row_of c)).args.flags.now) (tree_block (start (row_of c)).args.n 0 (start (row_of c)).args.low (α_of
     (row_of c))) ≡ true
-lower c = sym c.before.before.before.block_free.ensures ∙ c.before.before.if3.true
+lower c = sym c.block_free.ensures ∙ c.if-block_free.true
 
-loop-holds : tie.Need-loop-init invariant-loop decreases-loop invariant-walk decreases-walk
+loop-holds : tie.Need-loop-p-init invariant-loop-p decreases-loop-p invariant-walk decreases-walk
 loop-holds c =
     let at = row_of c in
     let n = (start at).args.n in
@@ -127,105 +127,101 @@ loop-holds c =
       omega arith,
     )
 
-digit_requires : tie.Need-digit-requires invariant-loop decreases-loop invariant-walk decreases-walk
+digit_requires : tie.Need-digit-requires invariant-loop-p decreases-loop-p invariant-walk decreases-walk
 digit_requires c κs = omega arith
 
 -- and digit p is 0
-abbrev inner : tie.Then5 invariant-loop decreases-loop invariant-walk decreases-walk → tie.Else4 invariant-loop decreases-loop invariant-walk decreases-walk
+abbrev inner : tie.Then-digit-eq0 invariant-loop-p decreases-loop-p invariant-walk decreases-walk → tie.Else-none_at-2 invariant-loop-p decreases-loop-p invariant-walk decreases-walk
 inner c = c.before.before.before.before
 
-zero : (c : tie.Then5 invariant-loop decreases-loop invariant-walk decreases-walk) → bit (α_of (row_of (inner c))) c.before.before.before.loop.p ≡ 0
-zero c = sym c.before.digit.ensures ∙ c.if5.true
+zero : (c : tie.Then-digit-eq0 invariant-loop-p decreases-loop-p invariant-walk decreases-walk) → bit (α_of (row_of (inner c))) c.loop-p.p ≡ 0
+zero c = sym c.digit.ensures ∙ c.if-digit-eq0.true
 
-other : (c : tie.Then5 invariant-loop decreases-loop invariant-walk decreases-walk) → Row-at (row_of (inner c)) (α_of (row_of (inner c)) + 2 ^ c.before.before.before.loop.p)
+other : (c : tie.Then-digit-eq0 invariant-loop-p decreases-loop-p invariant-walk decreases-walk) → Row-at (row_of (inner c)) (α_of (row_of (inner c)) + 2 ^ c.loop-p.p)
 other c = other_row (row_at (row_of (inner c))) (omega arith) (zero c)
 
-add_tried : tie.Need-overflow-add-tried invariant-loop decreases-loop invariant-walk decreases-walk
+add_tried : tie.Need-overflow_add-tried invariant-loop-p decreases-loop-p invariant-walk decreases-walk
 add_tried c =
     omega (
       arith,
-      counts c.before.before.before.loop.invariant.0 (_ ∷ []) _ (digit-zero _ _ _ _ _ c.before.before.loop-test.true (zero c)),
+      counts c.loop-p.invariant.0 (_ ∷ []) _ (digit-zero _ _ _ _ _ c.loop-p-test.true (zero c)),
       few (start (row_of (inner c))),
     )
 
-pow2_requires_2 : tie.Need-pow2-requires-2 invariant-loop decreases-loop invariant-walk decreases-walk
+pow2_requires_2 : tie.Need-pow2-requires invariant-loop-p decreases-loop-p invariant-walk decreases-walk
 pow2_requires_2 c κs = omega arith
 
-add_block_free : tie.Need-overflow-add-block-free invariant-loop decreases-loop invariant-walk decreases-walk
-add_block_free c = omega (arith, c.pow22.ensures, alpha_lt (other c.before))
+add_block_free : tie.Need-overflow_add-alpha invariant-loop-p decreases-loop-p invariant-walk decreases-walk
+add_block_free c = omega (arith, c.pow2.ensures, alpha_lt (other c.before))
 
-block_free_requires_2 : tie.Need-block-free-requires-2 invariant-loop decreases-loop invariant-walk decreases-walk
-block_free_requires_2 c κs = ((omega arith, omega arith), rw c.pow22.ensures (block_room (other c.before)))
+block_free_requires_2 : tie.Need-block_free-requires-then-digit-eq0 invariant-loop-p decreases-loop-p invariant-walk decreases-walk
+block_free_requires_2 c κs = ((omega arith, omega arith), rw c.pow2.ensures (block_room (other c.before)))
 
-tree_member_requires : tie.Need-tree-member-requires invariant-loop decreases-loop invariant-walk decreases-walk
+tree_member_requires : tie.Need-tree_member-requires invariant-loop-p decreases-loop-p invariant-walk decreases-walk
 tree_member_requires c κs =
-    let tried = c.before.before.before in
-    ((omega arith, omega arith), (member_room (row_at (row_of (inner tried))) (omega arith) (zero tried)).0)
+    ((omega arith, omega arith), (member_room (row_at (row_of (inner c.before.before.before))) (omega arith) (zero c.before.before.before)).0)
 
-add_p : tie.Need-overflow-add-p invariant-loop decreases-loop invariant-walk decreases-walk
+add_p : tie.Need-overflow_add-p invariant-loop-p decreases-loop-p invariant-walk decreases-walk
 add_p c = omega arith
 
-loop-less : tie.Need-loop-smaller invariant-loop decreases-loop invariant-walk decreases-walk
+loop-less : tie.Need-loop-p-smaller invariant-loop-p decreases-loop-p invariant-walk decreases-walk
 loop-less c = omega arith
 
-loop-again : tie.Need-loop-preserved invariant-loop decreases-loop invariant-walk decreases-walk
+loop-again : tie.Need-loop-p-preserved invariant-loop-p decreases-loop-p invariant-walk decreases-walk
 loop-again c =
-    let at = c.before.before.before in
     ⊎_elim
     (λ w.
-    rw w.4 (
-      misses at.loop.invariant.0 _ _ (digit-zero _ _ _ _ _ c.before.before.loop-test.true (sym c.before.digit.ensures ∙ w.0.taken))
+    rw w.FIELD4 (
+      misses c.loop-p.invariant.0 _ _ (digit-zero _ _ _ _ _ c.loop-p-test.true (sym c.digit.ensures ∙ w.if-digit-eq0.true))
           (one_fails _ refl _
-          (member_tested (row_at (row_of at.before)) _ _ (omega arith) (lower at.before) (sym (rw w.1.ensures at w.2.ensures)
-          ∙ w.3.left))),
+          (member_tested (row_at (row_of c.before.before.before.before)) _ _ (omega arith) (lower c.before.before.before.before) (sym (rw w.pow2.ensures c.before.before.before w.block_free-then-digit-eq0.ensures)
+          ∙ w.FIELD3.false))),
       omega arith,
     ))
     (λ w.
-    rw w.1 (
-      stays at.loop.invariant.0 (digit_one _ _ _ _ _ c.before.before.loop-test.true (λ z. w.0.left (c.before.digit.ensures ∙ z))),
+    rw w.tried-is (
+      stays c.loop-p.invariant.0 (digit_one _ _ _ _ _ c.loop-p-test.true (λ z. w.if-digit-eq0.false (c.digit.ensures ∙ z))),
       omega arith,
     ))
-    c.if5.branch
+    c.if-digit-eq0.branch-raw
 
-zero_digits_requires : tie.Need-zero-digits-requires invariant-loop decreases-loop invariant-walk decreases-walk
+zero_digits_requires : tie.Need-zero_digits-tried-requires invariant-loop-p decreases-loop-p invariant-walk decreases-walk
 zero_digits_requires c κs = ((row_at c.before.before).value, omega arith)
 
-add_tried_2 : tie.Need-overflow-add-tried-2 invariant-loop decreases-loop invariant-walk decreases-walk
+add_tried_2 : tie.Need-overflow_add-tried-else-block_free invariant-loop-p decreases-loop-p invariant-walk decreases-walk
 add_tried_2 c =
-    let at = c.before.before.before in
     omega (
       arith,
-      counts (test at).before.walk.invariant.0 (row (start at).args.n (start at).args.low (α_of at)) _ (left_next _ _ _ _ (test at).if1.false),
-      length-places (start at).args.n 0 (start at).args.low (α_of at) ((start at).args.n - (start at).args.low) 0,
+      counts (test c.before.before.before).before.walk.invariant.0 (row (start c.before.before.before).args.n (start c.before.before.before).args.low (α_of c.before.before.before)) _ (left_next _ _ _ _ (test c.before.before.before).if1.false),
+      length-places (start c.before.before.before).args.n 0 (start c.before.before.before).args.low (α_of c.before.before.before) ((start c.before.before.before).args.n - (start c.before.before.before).args.low) 0,
       c.zero_digits_lem.ensures,
-      few (start at),
+      few (start c.before.before.before),
     )
 
-add_alpha : tie.Need-overflow-add-alpha invariant-loop decreases-loop invariant-walk decreases-walk
+add_alpha : tie.Need-overflow_add-alpha-in-walk invariant-loop-p decreases-loop-p invariant-walk decreases-walk
 add_alpha c = omega (arith, end_le c.before.before.before.before.before.before)
 
-walk_less : tie.Need-walk-smaller invariant-loop decreases-loop invariant-walk decreases-walk
+walk_less : tie.Need-walk-smaller invariant-loop-p decreases-loop-p invariant-walk decreases-walk
 walk_less c = omega arith
 
-walk_again : tie.Need-walk-preserved invariant-loop decreases-loop invariant-walk decreases-walk
+walk_again : tie.Need-walk-preserved invariant-loop-p decreases-loop-p invariant-walk decreases-walk
 walk_again c =
-    let at = c.before.before in
     ⊎_elim
-    (λ w. rw (w.5, w.6) (stays w.3.inv.0 (left_done _ _ _ _ w.4.left), omega arith, omega arith))
+    (λ w. rw (w.FIELD5, w.FIELD6) (stays w.FIELD3.inv.0 (left_done _ _ _ _ w.FIELD4.false), omega arith, omega arith))
     (λ w.
-    rw (w.2, w.3) (
-      misses (test at).before.walk.invariant.0 _ _ (left_next _ _ _ _ (test at).if1.false)
-          (row_misses _ _ (row_at at) _ _ w.1.ensures (sym c.before.block_free.ensures ∙ w.0.left)),
+    rw (w.FIELD2, w.FIELD3) (
+      misses (test c.before.before).before.walk.invariant.0 _ _ (left_next _ _ _ _ (test c.before.before).if1.false)
+          (row_misses _ _ (row_at c.before.before) _ _ w.zero_digits-tried.ensures (sym c.block_free.ensures ∙ w.if-block_free.false)),
       omega arith,
       omega arith,
     ))
-    c.if3.branch
+    c.if-block_free.branch-raw
 
-returns : tie.Need-returns invariant-loop decreases-loop invariant-walk decreases-walk
-returns c = ends c.before.walk.invariant.0 (left_done _ _ _ _ c.if1.true)
+returns : tie.Need-returns-then-end-alpha invariant-loop-p decreases-loop-p invariant-walk decreases-walk
+returns c = ends c.walk.invariant.0 (left_done _ _ _ _ c.if-end-alpha.true)
 
 -- where all rows are known to have none
-closed : (c : tie.Start invariant-loop decreases-loop invariant-walk decreases-walk) {t : ℕ} → t ≡ length (tree c.args.n (c.args.low + 1))
+closed : (c : tie.Start invariant-loop-p decreases-loop-p invariant-walk decreases-walk) {t : ℕ} → t ≡ length (tree c.args.n (c.args.low + 1))
     → NoMember (flagged c.args.flags.now) c.args.n 0 c.args.low 0
     → NoneFree t ≡ first_free (is_free (flagged c.args.flags.now)) (tree c.args.n (suc c.args.low)) 0
 closed c e N =
@@ -233,29 +229,28 @@ closed c e N =
     ap NoneFree (e ∙ ap (λ (k : ℕ). length (tree a.n k)) (add-one a.low))
     ∙ sym (tree_closed (flagged a.flags.now) a.n a.low (omega arith) N)
 
-returns_2 : tie.Need-returns-2 invariant-loop decreases-loop invariant-walk decreases-walk
-returns_2 c = closed (begun c.before.before.before) c.tree_count.ensures (c.before.before.none-at.ensures c.before.if2.true)
+returns_2 : tie.Need-returns-then-none_at invariant-loop-p decreases-loop-p invariant-walk decreases-walk
+returns_2 c = closed (begun c.before.before.before) c.tree_count.ensures (c.none_at.ensures c.if-none_at.true)
 
-returns_3 : tie.Need-returns-3 invariant-loop decreases-loop invariant-walk decreases-walk
+returns_3 : tie.Need-returns-then-none_at-2 invariant-loop-p decreases-loop-p invariant-walk decreases-walk
 returns_3 c =
-    closed (start c.before.before.before.before.before) c.tree-count2.ensures (c.before.before.none-at2.ensures
-    c.before.if4.true)
+    closed (start c.before.before.before.before.before) c.tree_count-then-none_at-2.ensures (c.none_at-then-block_free.ensures
+    c.if-none_at-2.true)
 
-returns_4 : tie.Need-returns-4 invariant-loop decreases-loop invariant-walk decreases-walk
+returns_4 : tie.Need-returns-then-block_free-2 invariant-loop-p decreases-loop-p invariant-walk decreases-walk
 returns_4 c =
-    let tried = c.before.before.before.before in
-    let told = sym (rw c.before.before.before.pow22.ensures at c.before.before.block-free2.ensures) ∙ c.before.if6.true in
-    hits tried.before.before.before.loop.invariant.0 _ _ (digit-zero _ _ _ _ _ tried.before.before.loop-test.true (zero tried))
+    let told = sym (rw c.pow2.ensures at c.block_free-then-digit-eq0.ensures) ∙ c.if-block_free-2.true in
+    hits c.loop-p.invariant.0 _ _ (digit-zero _ _ _ _ _ c.loop-p-test.true (zero c.before.before.before.before))
     (one_passes _ c.tree_member_lem.ensures _
     (ap (is_free _) c.tree_member_lem.ensures
-    ∙ member_tested (row_at (row_of (inner tried))) _ _ (omega arith) (lower (inner tried)) told))
+    ∙ member_tested (row_at (row_of (inner c.before.before.before.before))) _ _ (omega arith) (lower (inner c.before.before.before.before)) told))
 
 pub tree_rows_spec : {M : Type 1} → statement M
 tree_rows_spec =
     tie.close
     (tie.spec
-    invariant-loop
-    decreases-loop
+    invariant-loop-p
+    decreases-loop-p
     invariant-walk
     decreases-walk
     sub_digits

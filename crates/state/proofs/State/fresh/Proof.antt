@@ -9,4 +9,7 @@ unfolding over
 returns c = refl
 
 pub fresh_spec : {M : Type 1} → statement M
-fresh_spec = tie.close (tie.spec returns)
+fresh_spec =
+    tie.close
+    (tie.spec
+    returns)
