@@ -1,5 +1,5 @@
 #!/usr/bin/env bash
-# The daemon over its socket and its file, against the second program. host/test.sh [SEED]. Wants bash 5.1 and what `rt staticlib cube` writes.
+# The daemon over its socket and its file, against the second program. host/test.sh [SEED]. Wants bash 5.1 and what `tools/libcube` writes.
 set -Eeuo pipefail
 cd "$(dirname "${BASH_SOURCE[0]}")/.."
 seed=${1:-1}

@@ -1,4 +1,4 @@
-//! Links the proved library, which `rt staticlib cube` writes; or the copy of
+//! Links the proved library, which `tools/libcube` writes; or the copy of
 //! it in the folder that CUBE_LIBRARY names.
 
 fn main() {

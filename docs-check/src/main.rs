@@ -78,22 +78,25 @@ fn name_of(name: &OsStr) -> String {
     name.to_string_lossy().into_owned()
 }
 
-/// The pages: docs/*.md and each README.md.
+/// The pages: docs/*.md and each README.md, but not docs/PORT.md, which sets
+/// what was beside what is.
 fn pages(files: &[PathBuf]) -> Vec<Page> {
     let in_docs = |path: &Path| path.parent().is_some_and(|folder| folder.ends_with("docs"));
-    let is_page = |path: &Path| path.extension().is_some_and(|e| e == "md") && in_docs(path);
+    let of_old = |path: &Path| path.ends_with("docs/PORT.md");
+    let is_page =
+        |path: &Path| path.extension().is_some_and(|e| e == "md") && in_docs(path) && !of_old(path);
     let pages = files.iter().filter(|path| is_page(path) || path.ends_with("README.md"));
     pages.map(|path| Page::read(path).expect("a page can be read")).collect()
 }
 
-/// All files, in the order of their names.
+/// All files but those that are made, in the order of their names.
 fn files(folder: &Path) -> Vec<PathBuf> {
     let mut found = Vec::new();
     for entry in std::fs::read_dir(folder).expect("a folder can be read") {
         let path = entry.expect("a folder can be read").path();
         if !path.is_dir() {
             found.push(path);
-        } else if !path.ends_with("target") && !path.ends_with(".git") {
+        } else if !["target", "out", ".git"].iter().any(|made| path.ends_with(made)) {
             found.extend(files(&path));
         }
     }
@@ -304,9 +307,10 @@ impl Check {
 
 /// Whether the path is there, a word in capitals standing for any name.
 fn exists(folder: &Path, path: &str) -> bool {
-    let Some((first, rest)) = path.split_once('/') else {
-        return folder.join(path).exists();
-    };
+    let (first, rest) = path.split_once('/').unwrap_or((path, ""));
+    if first.is_empty() {
+        return folder.exists();
+    }
     if first.chars().any(|c| !c.is_ascii_uppercase()) {
         return exists(&folder.join(first), rest);
     }

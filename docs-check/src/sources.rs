@@ -41,7 +41,7 @@ impl Sources {
             let path = entry?.path();
             let name = path.file_name().unwrap_or_default().to_string_lossy().into_owned();
             if path.is_dir() {
-                if name != "target" && name != ".git" {
+                if !["target", "out", ".git"].contains(&name.as_str()) {
                     self.folder(&path)?;
                 }
             } else if name == "Cargo.toml" {

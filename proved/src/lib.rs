@@ -1,5 +1,5 @@
 //! The three proved functions, as `include/cube.h` declares them, and frames for
-//! them. `rt staticlib cube` comes first.
+//! them. `tools/libcube` comes first.
 
 pub mod frame;
 

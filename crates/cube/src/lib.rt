@@ -1,4 +1,4 @@
-// Set-up, the loading call and the frame call on byte slices, exported for a daemon in C: include/cube.h declares them.
+// Set-up, the loading call and the frame call on byte slices. The crate cube_c exports them for a daemon in C, as include/cube.h declares them.
 // A call writes nothing but the record and the reply that it is lent, and keeps nothing.
 #![tactic(auto)]
 
@@ -11,8 +11,7 @@ use frames::Parsed;
 use hypercube::Reply;
 
 // Document 01: "Set-up takes a buffer and n." 1 for a buffer that hasn't a record's size, then 7 for n above 10; a refused set-up writes nothing.
-#[unsafe(no_mangle)]
-pub extern "C" fn cube_setup(rec: &mut [u8], n: u32) -> u32
+pub fn cube_setup(rec: &mut [u8], n: u32) -> u32
     ensures { SetUp delivered rec.old n result rec.new }
 {
     if rec.len() != record::SIZE {
@@ -28,8 +27,7 @@ pub extern "C" fn cube_setup(rec: &mut [u8], n: u32) -> u32
 // Document 02, (g): whether a record that comes back from disk may begin a list of calls. 1 for bytes that refusal 1 meets, then 18 for a record in
 // which a job's nodes and star bits don't form a subcube. Size and head are looked at first, and the rest is read by a slice of its own, so that the
 // compiler makes 8 KB of room on the stack for bytes with a record's head only.
-#[unsafe(no_mangle)]
-pub extern "C" fn cube_load(rec: &[u8]) -> u32
+pub fn cube_load(rec: &[u8]) -> u32
     ensures { Loaded delivered rec.now result }
 {
     if record::SIZE != rec.len() {
@@ -61,8 +59,7 @@ fn carry_frame(rec: &mut [u8], p: Parsed) -> Reply
 
 // The frame call: the number, the record's bytes and the reply's bytes are what `delivered` (specs/Called.antt) says of the bytes that were lent, and
 // demand 3 is proved of it.
-#[unsafe(no_mangle)]
-pub extern "C" fn cube_call(rec: &mut [u8], frame: &[u8], reply: &mut [u8]) -> u32
+pub fn cube_call(rec: &mut [u8], frame: &[u8], reply: &mut [u8]) -> u32
     ensures { Called delivered rec.old frame.now reply.old result rec.new reply.new }
 {
     if !record::is_valid(rec) {
