@@ -14,14 +14,21 @@ TOP = os.path.dirname(HERE)
 NAME = re.compile(r"[^\s(){}\[\],;.\":`]+")
 ENGLISH = {"set-up", "one-to-one", "best-fit", "first-fit", "no-waste", "log-right"}
 SKIPPED = {".git", "out", "target"}
+# Laws that changed their name, and had that of a function of src/.
+FUNCTIONS = {"any_held", "first_below", "held_by", "step_by"}
 
 with open(os.path.join(HERE, "respell.txt"), encoding="utf-8") as table:
     NEW = dict(line.split() for line in table)
 
 
 def turned(text, kept=frozenset()):
-    """The text with each listed name in its new spelling, but for those in `kept`."""
-    return NAME.sub(lambda m: m.group() if m.group() in kept else NEW.get(m.group(), m.group()), text)
+    """The text with each listed name in its new spelling, but for those in `kept` and the parts of a path that a module follows."""
+
+    def new(m):
+        module = re.match(r"\.[A-Z]", text[m.end() :])
+        return m.group() if module or m.group() in kept else NEW.get(m.group(), m.group())
+
+    return NAME.sub(new, text)
 
 
 def code(line, mark):
@@ -29,7 +36,8 @@ def code(line, mark):
     at = 0 if line.lstrip().startswith(mark) else line.find(" " + mark)
     at = len(line) if at < 0 else at
     pieces = re.split(r'("(?:[^"\\]|\\.)*")', line[:at]) if mark == "//" else [line[:at]]
-    return "".join(p if p.startswith('"') else turned(p) for p in pieces) + turned(line[at:], ENGLISH)
+    kept = FUNCTIONS if mark == "//" else frozenset()
+    return "".join(p if p.startswith('"') else turned(p, kept) for p in pieces) + turned(line[at:], ENGLISH)
 
 
 def edit(line):

@@ -14,7 +14,7 @@ fn relabel_on(rec: &mut [u8]) -> Reply
     requires { valid_record rec.old ≡ true }
     ensures { Carried rec.old Relabel result rec.new }
 {
-    if nodes::any_held_lem(rec, steps::nodes_of(rec)) {
+    if nodes::any_held(rec, steps::nodes_of(rec)) {
         return refused(13);
     }
     let new = nodes::relabelling(rec);

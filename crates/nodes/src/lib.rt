@@ -89,7 +89,7 @@ pub fn relabelling(bytes: &[u8]) -> Relabelled
 }
 
 // Whether any of the nodes below `size` is held: a byte of their holders isn't 0.
-pub fn any_held_lem(bytes: &[u8], size: usize) -> bool
+pub fn any_held(bytes: &[u8], size: usize) -> bool
     requires { (length bytes.now ≡ record_size) × (size ≤ 1024) }
     ensures { result ≡ any_below (λ x. not (eqb (get_or (decode bytes.now).holders x 0) 0)) size }
 {

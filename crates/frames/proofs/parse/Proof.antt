@@ -5,35 +5,35 @@ use Rattle.frames.proofs.Parsing.{cause_3_short, cause_3_length, cause_4, cause_
 use Rattle.frames.proofs.parse.Statement.{statement}
 use Rattle.frames.proofs.parse.Tie as tie
 
-returns : tie.Need-returns
+returns : tie.Need-returns-then-len-lt4
 returns c = cause_3_short _ (omega arith)
 
 word_requires : tie.Need-word-requires
 word_requires c κs = omega arith
 
-cast_if2 : tie.Need-overflow-cast-if2
+cast_if2 : tie.Need-overflow_cast-word
 cast_if2 c = search rules
 
-returns_2 : tie.Need-returns-2
+returns_2 : tie.Need-returns-then-word-len
 returns_2 c = cause_3_length _ (omega arith) (omega arith)
 
-word_requires_2 : tie.Need-word-requires-2
+word_requires_2 : tie.Need-word-kind-requires
 word_requires_2 c κs = omega arith
 
-size_of_requires : tie.Need-size-of-requires
+size_of_requires : tie.Need-size_of-right-requires
 size_of_requires c κs = search rules
 
-returns_3 : tie.Need-returns-3
-returns_3 c = cause_4 _ (omega arith) (omega arith) _ c.before.before.word2.ensures (omega arith)
+returns_3 : tie.Need-returns-then-right-eq0
+returns_3 c = cause_4 _ (omega arith) (omega arith) _ c.word-kind.ensures (omega arith)
 
-returns_4 : tie.Need-returns-4
-returns_4 c = cause_5 _ (omega arith) (omega arith) _ c.before.before.before.word2.ensures (omega arith) (omega arith)
+returns_4 : tie.Need-returns-then-len-right
+returns_4 c = cause_5 _ (omega arith) (omega arith) _ c.word-kind.ensures (omega arith) (omega arith)
 
-call_of_requires : tie.Need-call-of-requires
+call_of_requires : tie.Need-call_of-requires
 call_of_requires c κs = search rules
 
-returns_5 : tie.Need-returns-5
-returns_5 c = known _ (omega arith) (omega arith) _ c.before.before.before.before.word2.ensures _ c.call-of.ensures (omega arith)
+returns_5 : tie.Need-returns
+returns_5 c = known _ (omega arith) (omega arith) _ c.word-kind.ensures _ c.call_of.ensures (omega arith)
 
 pub parse_spec : {M : Type 1} → statement M
 parse_spec =

@@ -5,17 +5,23 @@ use Rattle.record.proofs.Round.{decode_holder}
 use Rattle.loads.proofs.holder_at.Statement.{statement}
 use Rattle.loads.proofs.holder_at.Tie as tie
 
-mul_word : tie.Need-overflow-mul-word
+mul_word : tie.Need-overflow_mul-x
 mul_word c = search rules
 
-add_word : tie.Need-overflow-add-word
+add_word : tie.Need-overflow_add-x
 add_word c = search rules
 
 word_requires : tie.Need-word-requires
 word_requires c κs = search rules
 
 returns : tie.Need-returns
-returns c = c.word.ensures ∙ sym (decode_holder _ _ c.before.before.requires.1)
+returns c = c.word.ensures ∙ sym (decode_holder _ _ c.requires.1)
 
 pub holder_at_spec : {M : Type 1} → statement M
-holder_at_spec = tie.close (tie.spec mul_word add_word word_requires returns)
+holder_at_spec =
+    tie.close
+    (tie.spec
+    mul_word
+    add_word
+    word_requires
+    returns)

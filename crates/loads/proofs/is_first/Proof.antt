@@ -12,25 +12,30 @@ use Rattle.loads.proofs.is_first.Tie as tie
 abbrev seen : List ℕ → ℕ → ℕ → Bool
 seen r job x = any_below (lowest_for r job) x
 
-returns : tie.Need-returns
+returns : tie.Need-returns-then-holder-eq0
 returns c =
-    let a = c.before.before.args in
-    first_unheld a.holder a.stars a.x (seen a.bytes.now a.holder a.x) c.if1.true
+    let a = c.args in
+    first_unheld a.holder a.stars a.x (seen a.bytes.now a.holder a.x) c.if-holder-eq0.true
 
-returns_2 : tie.Need-returns-2
+returns_2 : tie.Need-returns-then-x-stars-ne0
 returns_2 c =
-    let a = c.before.before.before.args in
-    first_other a.holder a.stars a.x (seen a.bytes.now a.holder a.x) c.before.if1.false c.if2.true
+    let a = c.args in
+    first_other a.holder a.stars a.x (seen a.bytes.now a.holder a.x) c.if-holder-eq0.false c.if-x-stars-ne0.true
 
-none_before_requires : tie.Need-none-before-requires
+none_before_requires : tie.Need-none_before-requires
 none_before_requires c κs = search rules
 
-returns_3 : tie.Need-returns-3
+returns_3 : tie.Need-returns
 returns_3 c =
-    let at = c.before in
-    let a = at.before.before.before.args in
-    first_lowest a.holder a.stars a.x (seen a.bytes.now a.holder a.x) at.before.if1.false at.if2.false
+    let a = c.args in
+    first_lowest a.holder a.stars a.x (seen a.bytes.now a.holder a.x) c.if-holder-eq0.false c.if-x-stars-ne0.false
     c.none_before.ensures
 
 pub is_first_spec : {M : Type 1} → statement M
-is_first_spec = tie.close (tie.spec returns returns_2 none_before_requires returns_3)
+is_first_spec =
+    tie.close
+    (tie.spec
+    returns
+    returns_2
+    none_before_requires
+    returns_3)

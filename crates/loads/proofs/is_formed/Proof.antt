@@ -8,42 +8,38 @@ use Rattle.loads.proofs.Formed.{long, small, not_whole, by_alone}
 use Rattle.loads.proofs.is_formed.Statement.{statement}
 use Rattle.loads.proofs.is_formed.Tie as tie
 
-dimension_requires : tie.Need-dimension-requires
-dimension_requires c κs = long _ c.before.requires
+dimension_requires : tie.Need-dimension-n-requires
+dimension_requires c κs = long _ c.requires
 
-cast_n : tie.Need-overflow-cast-n
+cast_n : tie.Need-overflow_cast-n
 cast_n c = search rules
 
-pow2_requires : tie.Need-pow2-requires
-pow2_requires c κs = omega (arith, c.dimension.ensures, small _ c.before.before.requires)
+pow2_requires : tie.Need-pow2-size-requires
+pow2_requires c κs = omega (arith, c.dimension-n.ensures, small _ c.requires)
 
 -- the dimension and the number of nodes that were read
-dimension_read : (c : tie.After-pow2) → c.before.dimension.result ≤ 10
-dimension_read c = omega (arith, c.before.dimension.ensures, small _ c.before.before.before.requires)
+dimension_read : (c : tie.After-pow2-size) → c.dimension-n.result ≤ 10
+dimension_read c = omega (arith, c.dimension-n.ensures, small _ c.requires)
 
-nodes_read : (c : tie.After-pow2) → c.pow2.result ≤ 1024
-nodes_read c = rw c.pow2.ensures (pow_mono {j = 10} (dimension_read c))
+nodes_read : (c : tie.After-pow2-size) → c.pow2-size.result ≤ 1024
+nodes_read c = rw c.pow2-size.ensures (pow_mono {j = 10} (dimension_read c))
 
-all_whole_requires : tie.Need-all-whole-requires
-all_whole_requires c κs = (long _ c.before.before.before.requires, (dimension_read c, nodes_read c))
+all_whole_requires : tie.Need-all_whole-requires
+all_whole_requires c κs = (long _ c.requires, (dimension_read c, nodes_read c))
 
-returns : tie.Need-returns
+returns : tie.Need-returns-then-not-all_whole
 returns c =
-    let at = c.before.before in
-    not_whole _ at.before.before.before.requires at.before.dimension.ensures at.pow2.ensures
-    c.before.all_whole.ensures (not-true _ c.if1.true)
+    not_whole _ c.requires c.dimension-n.ensures c.pow2-size.ensures
+    c.all_whole.ensures (not-true _ c.if-not-all_whole.true-raw)
 
-one_lowest_requires : tie.Need-one-lowest-requires
+one_lowest_requires : tie.Need-one_lowest-requires
 one_lowest_requires c κs =
-    let at = c.before.before in
-    (long _ at.before.before.before.requires, nodes_read at)
+    (long _ c.requires, nodes_read c.before.before)
 
-returns_2 : tie.Need-returns-2
+returns_2 : tie.Need-returns
 returns_2 c =
-    let whole = c.before.before in
-    let at = whole.before in
-    by_alone _ at.before.before.before.requires at.before.dimension.ensures at.pow2.ensures whole.all_whole.ensures
-    (not-false _ c.before.if1.false) c.one_lowest.ensures
+    by_alone _ c.requires c.dimension-n.ensures c.pow2-size.ensures c.all_whole.ensures
+    (not-false _ c.if-not-all_whole.false-raw) c.one_lowest.ensures
 
 pub is_formed_spec : {M : Type 1} → statement M
 is_formed_spec =

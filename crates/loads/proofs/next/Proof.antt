@@ -10,7 +10,11 @@ lower_requires : tie.Need-lower-requires
 lower_requires c κs = search rules
 
 returns : tie.Need-returns
-returns c = let a = c.before.args in ap (bit_xor (base a.x a.stars)) c.lower.ensures
+returns c = let a = c.args in ap (bit_xor (base a.x a.stars)) c.lower.ensures
 
 pub next_spec : {M : Type 1} → statement M
-next_spec = tie.close (tie.spec lower_requires returns)
+next_spec =
+    tie.close
+    (tie.spec
+    lower_requires
+    returns)

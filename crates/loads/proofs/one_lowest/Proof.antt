@@ -6,25 +6,25 @@ use Rattle.loads.proofs.Few.{few_alone}
 use Rattle.loads.proofs.one_lowest.Statement.{statement}
 use Rattle.loads.proofs.one_lowest.Tie as tie
 
-lowest_nodes_requires : tie.Need-lowest-nodes-requires
+lowest_nodes_requires : tie.Need-lowest_nodes-requires
 lowest_nodes_requires c κs = search rules
 
-returns : tie.Need-returns
+returns : tie.Need-returns-then-lowest_nodes-lt2
 returns c =
-    let a = c.before.before.before.args in
-    sym (few_alone a.bytes.now a.size (omega (arith, c.before.lowest-nodes.ensures)))
+    let a = c.args in
+    sym (few_alone a.bytes.now a.size (omega (arith, c.lowest_nodes.ensures)))
 
-pairs_alone_requires : tie.Need-pairs-alone-requires
+pairs_alone_requires : tie.Need-pairs_alone-requires
 pairs_alone_requires c κs = search rules
 
-returns_2 : tie.Need-returns-2
-returns_2 c = c.pairs-alone.ensures
+returns_2 : tie.Need-returns-then-size-le32
+returns_2 c = c.pairs_alone.ensures
 
-all_alone_requires : tie.Need-all-alone-requires
+all_alone_requires : tie.Need-all_alone-requires
 all_alone_requires c κs = search rules
 
-returns_3 : tie.Need-returns-3
-returns_3 c = c.all-alone.ensures
+returns_3 : tie.Need-returns
+returns_3 c = c.all_alone.ensures
 
 pub one_lowest_spec : {M : Type 1} → statement M
 one_lowest_spec =

@@ -10,50 +10,48 @@ use Rattle.loads.specs.Pass.{is_whole, whole_at}
 use Rattle.loads.proofs.whole_to.Statement.{statement}
 use Rattle.loads.proofs.whole_to.Tie as tie
 
-abbrev invariant-loop : tie.invariant-loop
-invariant-loop bytes n at end right₀ x₀ right x = (right ≡ all_below (whole_at bytes n) x) × (x ≤ end)
+abbrev invariant-loop-x : tie.invariant-loop-x
+invariant-loop-x bytes n at end right₀ x₀ right x = (right ≡ all_below (whole_at bytes n) x) × (x ≤ end)
 
-abbrev decreases-loop : tie.decreases-loop
-decreases-loop bytes n at end right₀ x₀ right x = end - x
+abbrev decreases-loop-x : tie.decreases-loop-x
+decreases-loop-x bytes n at end right₀ x₀ right x = end - x
 
-loop-holds : tie.Need-loop-init invariant-loop decreases-loop
-loop-holds c = (c.before.requires.1.1.1.1, c.before.requires.1.1.0)
+loop-holds : tie.Need-loop-x-init invariant-loop-x decreases-loop-x
+loop-holds c = (c.requires.1.1.1.1, c.requires.1.1.0)
 
-holder_at_requires : tie.Need-holder-at-requires invariant-loop decreases-loop
+holder_at_requires : tie.Need-holder_at-requires invariant-loop-x decreases-loop-x
 holder_at_requires c κs = search rules
 
-stars_at_requires : tie.Need-stars-at-requires invariant-loop decreases-loop
+stars_at_requires : tie.Need-stars_at-requires invariant-loop-x decreases-loop-x
 stars_at_requires c κs = search rules
 
-is_whole_requires : tie.Need-is-whole-requires invariant-loop decreases-loop
+is_whole_requires : tie.Need-is_whole-right-requires invariant-loop-x decreases-loop-x
 is_whole_requires c κs = search rules
 
-add_x : tie.Need-overflow-add-x invariant-loop decreases-loop
+add_x : tie.Need-overflow_add-x invariant-loop-x decreases-loop-x
 add_x c = omega arith
 
-loop-less : tie.Need-loop-smaller invariant-loop decreases-loop
+loop-less : tie.Need-loop-x-smaller invariant-loop-x decreases-loop-x
 loop-less c = omega arith
 
-loop-again : tie.Need-loop-preserved invariant-loop decreases-loop
+loop-again : tie.Need-loop-x-preserved invariant-loop-x decreases-loop-x
 loop-again c =
-    let stars = c.before in
-    let holder = stars.before in
-    let l = holder.before.before.loop in
-    let a = holder.before.before.before.before.args in
+    let l = c.loop-x in
+    let a = c.args in
     let r = a.bytes.now in
     let e =
-    c.is_whole.ensures ∙ ap₂ (λ (h s : ℕ). is_whole r a.n h s l.x) holder.holder-at.ensures stars.stars-at.ensures in
+    c.is_whole-right.ensures ∙ ap₂ (λ (h s : ℕ). is_whole r a.n h s l.x) c.holder_at.ensures c.stars_at.ensures in
     (ap (λ (b : Bool). l.right && b) e ∙ all_next _ _ _ l.invariant.0, omega arith)
 
-returns : tie.Need-returns invariant-loop decreases-loop
-returns c = all_ends _ _ _ _ c.before.loop.invariant.0 (omega arith) (omega arith)
+returns : tie.Need-returns invariant-loop-x decreases-loop-x
+returns c = all_ends _ _ _ _ c.loop-x.invariant.0 (omega arith) (omega arith)
 
 pub whole_to_spec : {M : Type 1} → statement M
 whole_to_spec =
     tie.close
     (tie.spec
-    invariant-loop
-    decreases-loop
+    invariant-loop-x
+    decreases-loop-x
     loop-holds
     holder_at_requires
     stars_at_requires

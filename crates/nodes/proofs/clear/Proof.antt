@@ -14,30 +14,32 @@ use Rattle.nodes.proofs.Parts.{decode-words, words_encoded}
 use Rattle.nodes.proofs.clear.Statement.{statement}
 use Rattle.nodes.proofs.clear.Tie as tie
 
-clear_words_requires : tie.Need-clear-words-requires
+clear_words_requires : tie.Need-clear_words-requires
 clear_words_requires c κs =
-    let start = c.before.before in
-    ((encode-decode _ start.requires.0.0 (λ i. omega (arith, c.before.slice-known.given i)) start.requires.0.1, inr refl), start.requires.1.1)
+    ((encode-decode _ c.requires.0.0 (λ i. omega (arith, c.slice_known-1.given i)) c.requires.0.1, inr refl), c.requires.1.1)
 
-clear_words_requires_2 : tie.Need-clear-words-requires-2
+clear_words_requires_2 : tie.Need-clear_words-requires-2
 clear_words_requires_2 c κs =
-    let at = c.before.before.before in
-    let start = at.before.before.before in
-    let e = at.clear-words.ensures in (
+    let e = c.clear_words.ensures in (
       (words_encoded stars_at _ (sized-decode _) _ (length_of _ 0 1024) e, inl refl),
-      rw (decode-words stars_at _ (sized-decode _) _ (length_of _ 0 1024) e) start.requires.1.0,
+      rw (decode-words stars_at _ (sized-decode _) _ (length_of _ 0 1024) e) c.requires.1.0,
     )
 
-same_length : tie.Need-same-length
+same_length : tie.Need-shape_of-bytes
 same_length c = search rules
 
 returns : tie.Need-returns
 returns c =
-    let at = c.before.before.before.before.before.before in
-    let j = at.before.before.before.args.job in
-    c.before.before.clear-words2.ensures
+    let j = c.args.job in
+    c.clear_words-2.ensures
     ∙ ap (λ (s : State). encode (with_holders s (cleared s.holders s.holders j)))
-    (decode-words stars_at _ (sized-decode _) _ (length_of _ 0 1024) at.clear-words.ensures)
+    (decode-words stars_at _ (sized-decode _) _ (length_of _ 0 1024) c.clear_words.ensures)
 
 pub clear_spec : {M : Type 1} → statement M
-clear_spec = tie.close (tie.spec clear_words_requires clear_words_requires_2 same_length returns)
+clear_spec =
+    tie.close
+    (tie.spec
+    clear_words_requires
+    clear_words_requires_2
+    same_length
+    returns)

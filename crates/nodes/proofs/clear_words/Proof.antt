@@ -28,89 +28,82 @@ stays l hs j k z = go (eqb (get_or hs k 0) j)
     go true = z
     go false = refl
 
-abbrev invariant-loop : tie.invariant-loop
-invariant-loop bytes₀ at size job x₀ bytes x =
+abbrev invariant-loop-x : tie.invariant-loop-x
+invariant-loop-x bytes₀ at size job x₀ bytes x =
     Sweeping (the_words at) (decode bytes₀) (cleared_at (words_of at (decode bytes₀)) (decode bytes₀).holders job) x bytes × (x ≤ size)
 
-abbrev decreases-loop : tie.decreases-loop
-decreases-loop bytes₀ at size job x₀ bytes x = size - x
+abbrev decreases-loop-x : tie.decreases-loop-x
+decreases-loop-x bytes₀ at size job x₀ bytes x = size - x
 
-loop-holds : tie.Need-loop-init invariant-loop decreases-loop
-loop-holds c = (sweeping_none c.before.requires.0.0 (λ k h. absurd (omega arith)), omega arith)
+loop-holds : tie.Need-loop-x-init invariant-loop-x decreases-loop-x
+loop-holds c = (sweeping_none c.requires.0.0 (λ k h. absurd (omega arith)), omega arith)
 
-mul_word : tie.Need-overflow-mul-word invariant-loop decreases-loop
+mul_word : tie.Need-overflow_mul-x invariant-loop-x decreases-loop-x
 mul_word c = omega arith
 
-add_word : tie.Need-overflow-add-word invariant-loop decreases-loop
+add_word : tie.Need-overflow_add-x invariant-loop-x decreases-loop-x
 add_word c = omega arith
 
-word_requires : tie.Need-word-requires invariant-loop decreases-loop
-word_requires c κs = omega (arith, encoded_long (sweeping_encoded (sized-decode _) c.before.before.loop.invariant.0))
+word_requires : tie.Need-word-requires invariant-loop-x decreases-loop-x
+word_requires c κs = omega (arith, encoded_long (sweeping_encoded (sized-decode _) c.loop-x.invariant.0))
 
-mul_word_2 : tie.Need-overflow-mul-word-2 invariant-loop decreases-loop
+mul_word_2 : tie.Need-overflow_mul-x-in-loop-x invariant-loop-x decreases-loop-x
 mul_word_2 c = omega arith
 
-add_word_2 : tie.Need-overflow-add-word-2 invariant-loop decreases-loop
-add_word_2 c = omega (arith, words_end _ c.before.before.before.before.before.before.requires.0.1)
+add_word_2 : tie.Need-overflow_add-at invariant-loop-x decreases-loop-x
+add_word_2 c = omega (arith, words_end _ c.requires.0.1)
 
-word_requires_2 : tie.Need-word-requires-2 invariant-loop decreases-loop
+word_requires_2 : tie.Need-word-requires-in-loop-x invariant-loop-x decreases-loop-x
 word_requires_2 c κs =
-    let at = c.before.before.before.before in
-    omega (arith, words_end _ at.before.before.requires.0.1, encoded_long (sweeping_encoded (sized-decode _) at.loop.invariant.0))
+    omega (arith, words_end _ c.requires.0.1, encoded_long (sweeping_encoded (sized-decode _) c.loop-x.invariant.0))
 
-without_requires : tie.Need-without-requires invariant-loop decreases-loop
+without_requires : tie.Need-without-w-requires invariant-loop-x decreases-loop-x
 without_requires c κs = search rules
 
-set_word_requires : tie.Need-set-word-requires invariant-loop decreases-loop
+set_word_requires : tie.Need-set_word-requires invariant-loop-x decreases-loop-x
 set_word_requires c κs =
-    let at = c.before.before.before.before.before.before.before in
-    (sweeping_encoded (sized-decode _) at.loop.invariant.0, (omega arith, at.before.before.requires.0.1))
+    (sweeping_encoded (sized-decode _) c.loop-x.invariant.0, (omega arith, c.requires.0.1))
 
-add_x : tie.Need-overflow-add-x invariant-loop decreases-loop
+add_x : tie.Need-overflow_add-x-in-loop-x invariant-loop-x decreases-loop-x
 add_x c = omega arith
 
-loop-less : tie.Need-loop-smaller invariant-loop decreases-loop
+loop-less : tie.Need-loop-x-smaller invariant-loop-x decreases-loop-x
 loop-less c = omega arith
 
-loop-again : tie.Need-loop-preserved invariant-loop decreases-loop
+loop-again : tie.Need-loop-x-preserved invariant-loop-x decreases-loop-x
 loop-again c =
-    let turn = c.before.before.before.before in
-    let at = turn.before.before.before.before.before.before in
-    let start = at.before.before in
-    let j = start.args.job in
-    let place = start.args.at in
-    let z = sized-decode start.args.bytes.now in
-    let W = at.loop.invariant.0 in
-    let e = words_entries place (decode start.args.bytes.now) z in
-    let w = turn.without.ensures
-    ∙ ap₂ (λ (h v : ℕ). cond (eqb h j) 0 v) (turn.before.before.before.word.ensures ∙ holder_next place z W (omega arith))
-    (turn.before.word2.ensures ∙ word_next place z W (omega arith) start.requires.0.1) in
-    (sweeping_put z W c.before.before.set_word.ensures (omega arith) w, omega arith)
+    let j = c.args.job in
+    let place = c.args.at in
+    let z = sized-decode c.args.bytes.now in
+    let W = c.loop-x.invariant.0 in
+    let e = words_entries place (decode c.args.bytes.now) z in
+    let w = c.without-w.ensures
+    ∙ ap₂ (λ (h v : ℕ). cond (eqb h j) 0 v) (c.word.ensures ∙ holder_next place z W (omega arith))
+    (c.word-in-loop-x.ensures ∙ word_next place z W (omega arith) c.requires.0.1) in
+    (sweeping_put z W c.set_word.ensures (omega arith) w, omega arith)
 
-same_length : tie.Need-same-length invariant-loop decreases-loop
+same_length : tie.Need-shape_of-bytes invariant-loop-x decreases-loop-x
 same_length c =
-    encoded_long (sweeping_encoded (sized-decode _) c.before.loop.invariant.0) ∙ sym (encoded_long c.before.before.before.requires.0.0)
+    encoded_long (sweeping_encoded (sized-decode _) c.loop-x.invariant.0) ∙ sym (encoded_long c.requires.0.0)
 
-returns : tie.Need-returns invariant-loop decreases-loop
+returns : tie.Need-returns invariant-loop-x decreases-loop-x
 returns c =
-    let at = c.before in
-    let start = at.before.before in
-    let l = words_of start.args.at (decode start.args.bytes.now) in
-    let hs = (decode start.args.bytes.now).holders in
-    let j = start.args.job in
-    let z = sized-decode start.args.bytes.now in
+    let l = words_of c.args.at (decode c.args.bytes.now) in
+    let hs = (decode c.args.bytes.now).holders in
+    let j = c.args.job in
+    let z = sized-decode c.args.bytes.now in
     let f : ℕ → ℕ = cleared_at l hs j in
-    let e = words_entries start.args.at (decode start.args.bytes.now) z in
-    sweeping_all z at.loop.invariant.0 (map f (from 0 1024)) (length_of f 0 1024 ∙ sym e)
+    let e = words_entries c.args.at (decode c.args.bytes.now) z in
+    sweeping_all z c.loop-x.invariant.0 (map f (from 0 1024)) (length_of f 0 1024 ∙ sym e)
     (λ k h. get_or_each f 0 1024 k (omega arith))
-    (λ k a b. stays l hs j k (start.requires.1.empty k (omega arith) (omega arith)))
+    (λ k a b. stays l hs j k (c.requires.1.empty k (omega arith) (omega arith)))
 
 pub clear_words_spec : {M : Type 1} → statement M
 clear_words_spec =
     tie.close
     (tie.spec
-    invariant-loop
-    decreases-loop
+    invariant-loop-x
+    decreases-loop-x
     loop-holds
     mul_word
     add_word

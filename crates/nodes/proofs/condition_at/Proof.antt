@@ -11,16 +11,21 @@ use Rattle.record.specs.Layout.{conditions_at}
 index_requires : tie.Need-index-requires
 index_requires c κs = search rules
 
-add_result : tie.Need-overflow-add-result
+add_result : tie.Need-overflow_add-result
 add_result c = search rules
 
-shared_slice_read_result : tie.Need-shared-slice-read-result
+shared_slice_read_result : tie.Need-bounds-bytes-index
 shared_slice_read_result c = search rules
 
 returns : tie.Need-returns
 returns c =
-    let start = c.before.before.before in
-    ap (λ (i : ℕ). get_or start.args.bytes.now (conditions_at + i) 0) c.before.index.ensures ∙ sym (decode_condition _ _ start.requires.1)
+    ap (λ (i : ℕ). get_or c.args.bytes.now (conditions_at + i) 0) c.index.ensures ∙ sym (decode_condition _ _ c.requires.1)
 
 pub condition_at_spec : {M : Type 1} → statement M
-condition_at_spec = tie.close (tie.spec index_requires add_result shared_slice_read_result returns)
+condition_at_spec =
+    tie.close
+    (tie.spec
+    index_requires
+    add_result
+    shared_slice_read_result
+    returns)

@@ -19,56 +19,55 @@ use Rattle.nodes.proofs.count_held.Tie as tie
 abbrev its : List ℕ → ℕ → ℕ → Bool
 its r j x = eqb (get_or (decode r).holders x 0) j
 
-abbrev invariant-loop : tie.invariant-loop
-invariant-loop bytes size job count₀ x₀ count x = (count ≡ count_below x (its bytes job)) × (count ≤ x) × (x ≤ size)
+abbrev invariant-loop-x : tie.invariant-loop-x
+invariant-loop-x bytes size job count₀ x₀ count x = (count ≡ count_below x (its bytes job)) × (count ≤ x) × (x ≤ size)
 
-abbrev decreases-loop : tie.decreases-loop
-decreases-loop bytes size job count₀ x₀ count x = size - x
+abbrev decreases-loop-x : tie.decreases-loop-x
+decreases-loop-x bytes size job count₀ x₀ count x = size - x
 
-loop-holds : tie.Need-loop-init invariant-loop decreases-loop
+loop-holds : tie.Need-loop-x-init invariant-loop-x decreases-loop-x
 unfolding count_below
 loop-holds c = (refl, omega arith, omega arith)
 
-mul_word : tie.Need-overflow-mul-word invariant-loop decreases-loop
+mul_word : tie.Need-overflow_mul-x invariant-loop-x decreases-loop-x
 mul_word c = omega arith
 
-add_word : tie.Need-overflow-add-word invariant-loop decreases-loop
+add_word : tie.Need-overflow_add-x invariant-loop-x decreases-loop-x
 add_word c = omega arith
 
-word_requires : tie.Need-word-requires invariant-loop decreases-loop
+word_requires : tie.Need-word-requires invariant-loop-x decreases-loop-x
 word_requires c κs = omega arith
 
-add_count : tie.Need-overflow-add-count invariant-loop decreases-loop
+add_count : tie.Need-overflow_add-count invariant-loop-x decreases-loop-x
 add_count c = omega arith
 
-add_x : tie.Need-overflow-add-x invariant-loop decreases-loop
+add_x : tie.Need-overflow_add-x-in-loop-x invariant-loop-x decreases-loop-x
 add_x c = omega arith
 
-loop-less : tie.Need-loop-smaller invariant-loop decreases-loop
+loop-less : tie.Need-loop-x-smaller invariant-loop-x decreases-loop-x
 loop-less c = omega arith
 
-loop-again : tie.Need-loop-preserved invariant-loop decreases-loop
+loop-again : tie.Need-loop-x-preserved invariant-loop-x decreases-loop-x
 loop-again c =
-    let at = c.before.before.before in
-    let r = at.before.before.args.bytes.now in
-    let j = at.before.before.args.job in
-    let x = at.loop.x in
-    let next = count_next (its r j) x _ at.loop.invariant.0 in
-    let h = decode_holder r x (omega arith) ∙ sym c.before.word.ensures in
+    let r = c.args.bytes.now in
+    let j = c.args.job in
+    let x = c.loop-x.x in
+    let next = count_next (its r j) x _ c.loop-x.invariant.0 in
+    let h = decode_holder r x (omega arith) ∙ sym c.word.ensures in
     ⊎_elim
-    (λ w. let n = rw (eq-eqb (get_or (decode r).holders x 0) j (h ∙ w.0.taken)) at next in (w.1 ∙ n, omega arith, omega arith))
-    (λ w. let n = rw (ne_eqb (get_or (decode r).holders x 0) j (λ e. w.0.left (sym h ∙ e))) at next in (omega arith, omega arith, omega arith))
-    c.if1.branch
+    (λ w. let n = rw (eq-eqb (get_or (decode r).holders x 0) j (h ∙ w.if-word-job.true)) at next in (w.count-is ∙ n, omega arith, omega arith))
+    (λ w. let n = rw (ne_eqb (get_or (decode r).holders x 0) j (λ e. w.if-word-job.false (sym h ∙ e))) at next in (omega arith, omega arith, omega arith))
+    c.if-word-job.branch-raw
 
-returns : tie.Need-returns invariant-loop decreases-loop
-returns c = count_ends _ _ _ _ c.before.loop.invariant.0 (omega arith) (omega arith)
+returns : tie.Need-returns invariant-loop-x decreases-loop-x
+returns c = count_ends _ _ _ _ c.loop-x.invariant.0 (omega arith) (omega arith)
 
 pub count_held_spec : {M : Type 1} → statement M
 count_held_spec =
     tie.close
     (tie.spec
-    invariant-loop
-    decreases-loop
+    invariant-loop-x
+    decreases-loop-x
     loop-holds
     mul_word
     add_word

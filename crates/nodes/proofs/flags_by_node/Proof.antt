@@ -16,66 +16,65 @@ use Rattle.nodes.proofs.flags_by_node.Tie as tie
 abbrev flag_in : List ℕ → ℕ → ℕ → ℕ
 flag_in r j = flag (decode r).conditions (decode r).holders j
 
-abbrev invariant-loop : tie.invariant-loop
-invariant-loop bytes size job flags₀ x₀ flags x = Swept (flag_in bytes job) 0 flags₀ x flags × (x ≤ size) × (size ≤ 1024)
+abbrev invariant-loop-x : tie.invariant-loop-x
+invariant-loop-x bytes size job flags₀ x₀ flags x = Swept (flag_in bytes job) 0 flags₀ x flags × (x ≤ size) × (size ≤ 1024)
 
-abbrev decreases-loop : tie.decreases-loop
-decreases-loop bytes size job flags₀ x₀ flags x = size - x
+abbrev decreases-loop-x : tie.decreases-loop-x
+decreases-loop-x bytes size job flags₀ x₀ flags x = size - x
 
-loop-holds : tie.Need-loop-init invariant-loop decreases-loop
+loop-holds : tie.Need-loop-x-init invariant-loop-x decreases-loop-x
 loop-holds c = (swept_none (λ k h. absurd (omega arith)), omega arith, omega arith)
 
-add_flag_of : tie.Need-overflow-add-flag-of invariant-loop decreases-loop
+add_flag_of : tie.Need-overflow_add-x invariant-loop-x decreases-loop-x
 add_flag_of c = omega arith
 
-shared_slice_read_flag_of : tie.Need-shared-slice-read-flag-of invariant-loop decreases-loop
+shared_slice_read_flag_of : tie.Need-bounds-bytes-x invariant-loop-x decreases-loop-x
 shared_slice_read_flag_of c = omega arith
 
-mul_word : tie.Need-overflow-mul-word invariant-loop decreases-loop
+mul_word : tie.Need-overflow_mul-x invariant-loop-x decreases-loop-x
 mul_word c = omega arith
 
-add_word : tie.Need-overflow-add-word invariant-loop decreases-loop
+add_word : tie.Need-overflow_add-x-in-loop-x invariant-loop-x decreases-loop-x
 add_word c = omega arith
 
-word_requires : tie.Need-word-requires invariant-loop decreases-loop
+word_requires : tie.Need-word-requires invariant-loop-x decreases-loop-x
 word_requires c κs = omega arith
 
-flag_of_requires : tie.Need-flag-of-requires invariant-loop decreases-loop
+flag_of_requires : tie.Need-flag_of-requires invariant-loop-x decreases-loop-x
 flag_of_requires c κs = search rules
 
-element_write_flags : tie.Need-element-write-flags invariant-loop decreases-loop
+element_write_flags : tie.Need-bounds-flags-x invariant-loop-x decreases-loop-x
 element_write_flags c = omega arith
 
-add_x : tie.Need-overflow-add-x invariant-loop decreases-loop
+add_x : tie.Need-overflow_add-x-in-loop-x-2 invariant-loop-x decreases-loop-x
 add_x c = omega arith
 
-loop-less : tie.Need-loop-smaller invariant-loop decreases-loop
+loop-less : tie.Need-loop-x-smaller invariant-loop-x decreases-loop-x
 loop-less c = omega arith
 
-loop-again : tie.Need-loop-preserved invariant-loop decreases-loop
+loop-again : tie.Need-loop-x-preserved invariant-loop-x decreases-loop-x
 unfolding flag
 loop-again c =
-    let at = c.before.before.before.before in
-    let a = at.before.before.args in
+    let a = c.args in
     let r = a.bytes.now in
-    let l = at.loop in
-    let v : c.flag_of_lem.result ≡ flag_in r a.job l.x =
-    c.flag_of_lem.ensures
+    let l = c.loop-x in
+    let v : c.flag_of.result ≡ flag_in r a.job l.x =
+    c.flag_of.ensures
     ∙ ap₂ (λ (d h : ℕ). flag_of d h a.job) (sym (decode_condition r l.x (omega arith)))
-    (c.before.word.ensures ∙ sym (decode_holder r l.x (omega arith))) in
+    (c.word.ensures ∙ sym (decode_holder r l.x (omega arith))) in
     (swept_put _ l.invariant.0 (omega arith) v, omega arith, omega arith)
 
-returns : tie.Need-returns invariant-loop decreases-loop
+returns : tie.Need-returns invariant-loop-x decreases-loop-x
 returns c =
-    let l = c.before.loop in
-    swept_empty c.before.before.before.requires.1 l.invariant.0 (omega arith)
+    let l = c.loop-x in
+    swept_empty c.requires.1 l.invariant.0 (omega arith)
 
 pub flags_by_node_spec : {M : Type 1} → statement M
 flags_by_node_spec =
     tie.close
     (tie.spec
-    invariant-loop
-    decreases-loop
+    invariant-loop-x
+    decreases-loop-x
     loop-holds
     add_flag_of
     shared_slice_read_flag_of

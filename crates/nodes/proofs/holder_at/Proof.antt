@@ -11,10 +11,10 @@ use Rattle.record.specs.Layout.{holders_at}
 index_requires : tie.Need-index-requires
 index_requires c κs = search rules
 
-mul_word : tie.Need-overflow-mul-word
+mul_word : tie.Need-overflow_mul-index
 mul_word c = search rules
 
-add_word : tie.Need-overflow-add-word
+add_word : tie.Need-overflow_add-index
 add_word c = search rules
 
 word_requires : tie.Need-word-requires
@@ -22,9 +22,15 @@ word_requires c κs = search rules
 
 returns : tie.Need-returns
 returns c =
-    let start = c.before.before.before in
-    c.word.ensures ∙ ap (λ (i : ℕ). word start.args.bytes.now (holders_at + 2 * i)) c.before.index.ensures
-    ∙ sym (decode_holder _ _ start.requires.1)
+    c.word.ensures ∙ ap (λ (i : ℕ). word c.args.bytes.now (holders_at + 2 * i)) c.index.ensures
+    ∙ sym (decode_holder _ _ c.requires.1)
 
 pub holder_at_spec : {M : Type 1} → statement M
-holder_at_spec = tie.close (tie.spec index_requires mul_word add_word word_requires returns)
+holder_at_spec =
+    tie.close
+    (tie.spec
+    index_requires
+    mul_word
+    add_word
+    word_requires
+    returns)

@@ -25,28 +25,27 @@ module _ (r : List ℕ) (long : length r ≡ record_size) where
   relabelled : {n : ℕ} → n ≡ (decode r).n → relabelling n (part r conditions_at stars_at) ≡ relabelling (decode r).n (decode r).conditions
   relabelled e = rw (e, conditions)
 
-dimension_requires : tie.Need-dimension-requires
-dimension_requires c κs = c.before.requires.0
+dimension_requires : tie.Need-dimension-n-requires
+dimension_requires c κs = c.requires.0
 
-cast_relabel : tie.Need-overflow-cast-relabel
+cast_relabel : tie.Need-overflow_cast-n
 cast_relabel c = search rules
 
-sub_relabel : tie.Need-overflow-sub-relabel
+sub_relabel : tie.Need-slice_bounds-relabel-count
 sub_relabel c = search rules
-
-part_relabel_start : tie.Need-slice-bounds-relabel-start
-part_relabel_start c = search rules
-
-part_relabel_end : tie.Need-slice-bounds-relabel-end
-part_relabel_end c = omega arith
 
 relabel_requires : tie.Need-relabel-requires
 relabel_requires c κs = (omega arith, omega arith)
 
 returns : tie.Need-returns
 returns c =
-    let read = c.before.before in
-    c.relabel.ensures ∙ relabelled _ read.before.before.requires.0 read.dimension.ensures
+    c.relabel.ensures ∙ relabelled _ c.requires.0 c.dimension-n.ensures
+
+slice_bounds_relabel_start : tie.Need-slice_bounds-relabel-start
+slice_bounds_relabel_start c = search rules
+
+slice_bounds_relabel_end : tie.Need-slice_bounds-relabel-end
+slice_bounds_relabel_end c = search rules
 
 pub relabelling_spec : {M : Type 1} → statement M
 relabelling_spec =
@@ -55,7 +54,7 @@ relabelling_spec =
     dimension_requires
     cast_relabel
     sub_relabel
-    part_relabel_start
-    part_relabel_end
+    slice_bounds_relabel_start
+    slice_bounds_relabel_end
     relabel_requires
     returns)

@@ -11,27 +11,32 @@ use Rattle.nodes.proofs.set_condition.Statement.{statement}
 use Rattle.nodes.proofs.set_condition.Tie as tie
 use Rattle.record.specs.Layout.{conditions_at}
 
-index_requires : tie.Need-index-requires
+index_requires : tie.Need-index-i-requires
 index_requires c κs = search rules
 
-add_bytes : tie.Need-overflow-add-bytes
+add_bytes : tie.Need-overflow_add-bytes
 add_bytes c = search rules
 
-slice_write_bytes : tie.Need-slice-write-bytes
+slice_write_bytes : tie.Need-bounds-bytes-i
 slice_write_bytes c = search rules
 
-same_length : tie.Need-same-length
+same_length : tie.Need-shape_of-bytes
 same_length c = search rules
 
 returns : tie.Need-returns
 returns c =
-    let start = c.before.before in
-    let v = start.args.condition in
-    let at = conditions_at + start.args.x.0 in
-    ap (λ (i : ℕ). set start.args.bytes.now (conditions_at + i) v) c.index.ensures
-    ∙ ap (λ (l : List ℕ). set l at v) (sym (encode-decode _ start.requires.0 (λ i. omega (arith, c.before.slice-known.given i)) start.requires.1.1))
-    ∙ set_condition_entry _ (sized-decode _) _ v start.requires.1.0
+    let v = c.args.condition in
+    let at = conditions_at + c.args.x.0 in
+    ap (λ (i : ℕ). set c.args.bytes.now (conditions_at + i) v) c.index-i.ensures
+    ∙ ap (λ (l : List ℕ). set l at v) (sym (encode-decode _ c.requires.0 (λ i. omega (arith, c.slice_known-1.given i)) c.requires.1.1))
+    ∙ set_condition_entry _ (sized-decode _) _ v c.requires.1.0
 
 pub set_condition_spec : {M : Type 1} → statement M
 set_condition_spec =
-    tie.close (tie.spec index_requires add_bytes slice_write_bytes same_length returns)
+    tie.close
+    (tie.spec
+    index_requires
+    add_bytes
+    slice_write_bytes
+    same_length
+    returns)

@@ -11,13 +11,13 @@ use Rattle.nodes.proofs.InPlace.{set-map-entry}
 use Rattle.nodes.proofs.set_direction.Statement.{statement}
 use Rattle.nodes.proofs.set_direction.Tie as tie
 
-add_bytes : tie.Need-overflow-add-bytes
+add_bytes : tie.Need-overflow_add-bytes
 add_bytes c = search rules
 
-slice_write_bytes : tie.Need-slice-write-bytes
+slice_write_bytes : tie.Need-bounds-bytes-i
 slice_write_bytes c = omega (arith, encoded_long c.requires.0)
 
-same_length : tie.Need-same-length
+same_length : tie.Need-shape_of-bytes
 same_length c = search rules
 
 returns : tie.Need-returns
@@ -27,4 +27,10 @@ returns c =
     ap (λ (l : List ℕ). set l (map_at + i) v) (sym c.requires.0) ∙ set-map-entry _ (sized-decode _) i v c.requires.1
 
 pub set_direction_spec : {M : Type 1} → statement M
-set_direction_spec = tie.close (tie.spec add_bytes slice_write_bytes same_length returns)
+set_direction_spec =
+    tie.close
+    (tie.spec
+    add_bytes
+    slice_write_bytes
+    same_length
+    returns)

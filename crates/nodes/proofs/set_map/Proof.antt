@@ -10,51 +10,48 @@ use Rattle.nodes.proofs.Sweeps.{Sweeping, sweeping_none, sweeping_encoded, sweep
 use Rattle.nodes.proofs.set_map.Statement.{statement}
 use Rattle.nodes.proofs.set_map.Tie as tie
 
-abbrev invariant-loop : tie.invariant-loop
-invariant-loop bytes₀ map d₀ bytes d = Sweeping the_map (decode bytes₀) (λ k. get_or map k 0) d bytes × (d ≤ 10)
+abbrev invariant-loop-d : tie.invariant-loop-d
+invariant-loop-d bytes₀ map d₀ bytes d = Sweeping the_map (decode bytes₀) (λ k. get_or map k 0) d bytes × (d ≤ 10)
 
-abbrev decreases-loop : tie.decreases-loop
-decreases-loop bytes₀ map d₀ bytes d = 10 - d
+abbrev decreases-loop-d : tie.decreases-loop-d
+decreases-loop-d bytes₀ map d₀ bytes d = 10 - d
 
-loop-holds : tie.Need-loop-init invariant-loop decreases-loop
+loop-holds : tie.Need-loop-d-init invariant-loop-d decreases-loop-d
 loop-holds c =
-    let a = c.before.requires.0 in
-    (sweeping_none (encode-decode _ a.0 (λ i. omega (arith, c.slice-known.given i)) a.1) (λ k h. absurd (omega arith)), omega arith)
+    let a = c.requires.0 in
+    (sweeping_none (encode-decode _ a.0 (λ i. omega (arith, c.slice_known-1.given i)) a.1) (λ k h. absurd (omega arith)), omega arith)
 
-element_copy_out_set_direction : tie.Need-element-copy-out-set-direction invariant-loop decreases-loop
+element_copy_out_set_direction : tie.Need-bounds-map-d invariant-loop-d decreases-loop-d
 element_copy_out_set_direction c = omega arith
 
-set_direction_requires : tie.Need-set-direction-requires invariant-loop decreases-loop
-set_direction_requires c κs = (sweeping_encoded (sized-decode _) c.before.before.before.loop.invariant.0, omega arith)
+set_direction_requires : tie.Need-set_direction-requires invariant-loop-d decreases-loop-d
+set_direction_requires c κs = (sweeping_encoded (sized-decode _) c.loop-d.invariant.0, omega arith)
 
-add_d : tie.Need-overflow-add-d invariant-loop decreases-loop
+add_d : tie.Need-overflow_add-d invariant-loop-d decreases-loop-d
 add_d c = omega arith
 
-loop-less : tie.Need-loop-smaller invariant-loop decreases-loop
+loop-less : tie.Need-loop-d-smaller invariant-loop-d decreases-loop-d
 loop-less c = omega arith
 
-loop-again : tie.Need-loop-preserved invariant-loop decreases-loop
+loop-again : tie.Need-loop-d-preserved invariant-loop-d decreases-loop-d
 loop-again c =
-    let at = c.before.before.before.before.before.before in
-    let z = sized-decode at.before.before.args.bytes.now in
-    (sweeping_put z at.loop.invariant.0 c.before.before.set-direction.ensures (omega (arith, z.directions)) refl, omega arith)
+    let z = sized-decode c.args.bytes.now in
+    (sweeping_put z c.loop-d.invariant.0 c.set_direction.ensures (omega (arith, z.directions)) refl, omega arith)
 
-same_length : tie.Need-same-length invariant-loop decreases-loop
-same_length c = encoded_long (sweeping_encoded (sized-decode _) c.before.loop.invariant.0) ∙ sym c.before.before.before.requires.0.0
+same_length : tie.Need-shape_of-bytes invariant-loop-d decreases-loop-d
+same_length c = encoded_long (sweeping_encoded (sized-decode _) c.loop-d.invariant.0) ∙ sym c.requires.0.0
 
-returns : tie.Need-returns invariant-loop decreases-loop
+returns : tie.Need-returns invariant-loop-d decreases-loop-d
 returns c =
-    let at = c.before in
-    let start = at.before.before in
-    let z = sized-decode start.args.bytes.now in
-    sweeping_all z at.loop.invariant.0 _ (start.requires.1 ∙ sym z.directions) (λ k h. refl) (λ k a b. absurd (omega (arith, z.directions)))
+    let z = sized-decode c.args.bytes.now in
+    sweeping_all z c.loop-d.invariant.0 _ (c.requires.1 ∙ sym z.directions) (λ k h. refl) (λ k a b. absurd (omega (arith, z.directions)))
 
 pub set_map_spec : {M : Type 1} → statement M
 set_map_spec =
     tie.close
     (tie.spec
-    invariant-loop
-    decreases-loop
+    invariant-loop-d
+    decreases-loop-d
     loop-holds
     element_copy_out_set_direction
     set_direction_requires

@@ -11,34 +11,34 @@ use Rattle.nodes.proofs.InPlace.{set-word-entry}
 use Rattle.nodes.proofs.set_word.Statement.{statement}
 use Rattle.nodes.proofs.set_word.Tie as tie
 
-cast_bytes : tie.Need-overflow-cast-bytes
+cast_bytes : tie.Need-overflow_cast-bytes
 cast_bytes c = search rules
 
-mul_bytes : tie.Need-overflow-mul-bytes
+mul_bytes : tie.Need-overflow_mul-bytes
 mul_bytes c = search rules
 
-add_bytes : tie.Need-overflow-add-bytes
+add_bytes : tie.Need-overflow_add-bytes
 add_bytes c = omega (arith, words_end _ c.requires.1.1)
 
-slice_write_bytes : tie.Need-slice-write-bytes
+slice_write_bytes : tie.Need-bounds-bytes-at
 slice_write_bytes c = omega (arith, encoded_long c.requires.0, words_end _ c.requires.1.1)
 
-cast_bytes_2 : tie.Need-overflow-cast-bytes-2
+cast_bytes_2 : tie.Need-overflow_cast-bytes-2
 cast_bytes_2 c = search rules
 
-mul_bytes_2 : tie.Need-overflow-mul-bytes-2
+mul_bytes_2 : tie.Need-overflow_mul-bytes-2
 mul_bytes_2 c = search rules
 
-add_bytes_2 : tie.Need-overflow-add-bytes-2
+add_bytes_2 : tie.Need-overflow_add-bytes-2
 add_bytes_2 c = omega (arith, words_end _ c.requires.1.1)
 
-add_bytes_3 : tie.Need-overflow-add-bytes-3
+add_bytes_3 : tie.Need-overflow_add-bytes-3
 add_bytes_3 c = omega (arith, words_end _ c.requires.1.1)
 
-slice_write_bytes_2 : tie.Need-slice-write-bytes-2
+slice_write_bytes_2 : tie.Need-bounds-bytes-at-2
 slice_write_bytes_2 c = simp length-set (omega (arith, encoded_long c.requires.0, words_end _ c.requires.1.1))
 
-same_length : tie.Need-same-length
+same_length : tie.Need-shape_of-bytes
 same_length c = search rules
 
 returns : tie.Need-returns

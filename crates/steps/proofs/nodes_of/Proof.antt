@@ -7,14 +7,19 @@ use Rattle.steps.proofs.Ways.{state_valid}
 use Rattle.steps.proofs.nodes_of.Statement.{statement}
 use Rattle.steps.proofs.nodes_of.Tie as tie
 
-dimension_requires : tie.Need-dimension-requires
-dimension_requires c κs = (record_says _ c.before.requires).long
+dimension_requires : tie.Need-dimension-n-requires
+dimension_requires c κs = (record_says _ c.requires).long
 
-node_count_requires : tie.Need-node-count-requires
-node_count_requires c κs = omega (arith, c.dimension.ensures, (state_valid _ c.before.before.requires).small)
+node_count_requires : tie.Need-node_count-requires
+node_count_requires c κs = omega (arith, c.dimension-n.ensures, (state_valid _ c.requires).small)
 
 returns : tie.Need-returns
-returns c = (c.node-count.ensures.0 ∙ ap (λ (n : ℕ). 2 ^ n) c.before.dimension.ensures, c.node-count.ensures.1)
+returns c = (c.node_count.ensures.0 ∙ ap (λ (n : ℕ). 2 ^ n) c.dimension-n.ensures, c.node_count.ensures.1)
 
 pub nodes_of_spec : {M : Type 1} → statement M
-nodes_of_spec = tie.close (tie.spec dimension_requires node_count_requires returns)
+nodes_of_spec =
+    tie.close
+    (tie.spec
+    dimension_requires
+    node_count_requires
+    returns)
