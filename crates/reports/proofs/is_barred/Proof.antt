@@ -4,16 +4,21 @@ use borrow.Author.Tests.{ne_eqb}
 use Rattle.reports.proofs.is_barred.Statement.{statement}
 use Rattle.reports.proofs.is_barred.Tie as tie
 
-returns : tie.Need-returns
-returns c = rw c.match.keys1
+returns : tie.Need-returns-in-2
+returns c = rw c.in-2.is
 
-returns_2 : tie.Need-returns-2
-returns_2 c = rw c.match.keys2
+returns_2 : tie.Need-returns-in-1
+returns_2 c = rw c.in-1.is
 
-returns_3 : tie.Need-returns-3
+returns_3 : tie.Need-returns-in_default
 returns_3 c =
-    let reported = c.before.args.reported in
+    let reported = c.args.reported in
     simp (ne_eqb reported 2 (λ e. omega arith), ne_eqb reported 1 (λ e. omega arith))
 
 pub is_barred_spec : {M : Type 1} → statement M
-is_barred_spec = tie.close (tie.spec returns returns_2 returns_3)
+is_barred_spec =
+    tie.close
+    (tie.spec
+    returns
+    returns_2
+    returns_3)

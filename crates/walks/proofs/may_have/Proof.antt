@@ -48,7 +48,7 @@ returns : tie.Need-returns-then-not-label_free
 returns c =
     let a = c.args in
     let off : flagged a.flags.now (a.alpha * 2 ^ (a.low - a.d)) ≡ false =
-    sym (rw c.pow2.ensures c.before.before c.label_free.ensures) ∙ not-true _ c.if-not-label_free.true-raw in
+    sym (rw c.pow2.ensures at c.label_free.ensures) ∙ not-true _ c.if-not-label_free.true-raw in
     sym (ap (λ (b : Bool). eqb (bit a.mask a.d) 1 && b) (lowest_first _ width _ _ off) ∙ and-false (eqb (bit a.mask a.d) 1))
 
 digit_requires : tie.Need-digit-requires

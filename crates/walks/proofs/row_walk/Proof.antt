@@ -125,8 +125,8 @@ returns c = ends c.walk.invariant.0 (left_done _ _ _ _ c.if-digits-p.true)
 returns_2 : tie.Need-returns-then-block_at invariant-walk decreases-walk
 returns_2 c =
     hits c.walk.invariant.0 _ _ (digit-zero _ _ _ _ _ (place c.before.before.before.before) (zero c.before.before.before.before))
-    (one_passes _ c.tree_member_lem.ensures _
-    (ap (is_free _) c.tree_member_lem.ensures
+    (one_passes _ c.tree_member.ensures _
+    (ap (is_free _) c.tree_member.ensures
     ∙ member_tested (start c.before.before.before.before).requires.0.0 _ _ (place c.before.before.before.before) (start c.before.before.before.before).requires.1.1.0
     (tested (start c.before.before.before.before) _ _ (other c.before.before.before.before) (ap (λ (x : ℕ). (start c.before.before.before.before).args.alpha + x) c.pow2.ensures)
     c.block_at.ensures

@@ -174,7 +174,7 @@ loop-again c =
     rw w.FIELD4 (
       misses c.loop-p.invariant.0 _ _ (digit-zero _ _ _ _ _ c.loop-p-test.true (sym c.digit.ensures ∙ w.if-digit-eq0.true))
           (one_fails _ refl _
-          (member_tested (row_at (row_of c.before.before.before.before)) _ _ (omega arith) (lower c.before.before.before.before) (sym (rw w.pow2.ensures c.before.before.before w.block_free-then-digit-eq0.ensures)
+          (member_tested (row_at (row_of c.before.before.before.before)) _ _ (omega arith) (lower c.before.before.before.before) (sym (rw w.pow2.ensures at w.block_free-then-digit-eq0.ensures)
           ∙ w.FIELD3.false))),
       omega arith,
     ))
@@ -194,7 +194,7 @@ add_tried_2 c =
       arith,
       counts (test c.before.before.before).before.walk.invariant.0 (row (start c.before.before.before).args.n (start c.before.before.before).args.low (α_of c.before.before.before)) _ (left_next _ _ _ _ (test c.before.before.before).if1.false),
       length-places (start c.before.before.before).args.n 0 (start c.before.before.before).args.low (α_of c.before.before.before) ((start c.before.before.before).args.n - (start c.before.before.before).args.low) 0,
-      c.zero_digits_lem.ensures,
+      c.zero_digits-tried.ensures,
       few (start c.before.before.before),
     )
 
@@ -241,8 +241,8 @@ returns_4 : tie.Need-returns-then-block_free-2 invariant-loop-p decreases-loop-p
 returns_4 c =
     let told = sym (rw c.pow2.ensures at c.block_free-then-digit-eq0.ensures) ∙ c.if-block_free-2.true in
     hits c.loop-p.invariant.0 _ _ (digit-zero _ _ _ _ _ c.loop-p-test.true (zero c.before.before.before.before))
-    (one_passes _ c.tree_member_lem.ensures _
-    (ap (is_free _) c.tree_member_lem.ensures
+    (one_passes _ c.tree_member.ensures _
+    (ap (is_free _) c.tree_member.ensures
     ∙ member_tested (row_at (row_of (inner c.before.before.before.before))) _ _ (omega arith) (lower (inner c.before.before.before.before)) told))
 
 pub tree_rows_spec : {M : Type 1} → statement M
