@@ -38,30 +38,30 @@ digit_requires : tie.Need-digit-requires invariant-walk decreases-walk
 digit_requires c κs = omega (arith, c.requires.0.0.narrow, c.requires.0.0.sum)
 
 -- digit p is 0
-abbrev start : tie.Then-digit-eq0 invariant-walk decreases-walk → tie.Start invariant-walk decreases-walk
-start c = c.before.before.before.before
+abbrev start_of : tie.Then-digit-eq0 invariant-walk decreases-walk → tie.Start invariant-walk decreases-walk
+start_of c = c.before.before.before.before
 
-zero : (c : tie.Then-digit-eq0 invariant-walk decreases-walk) → bit (start c).args.alpha c.walk.p ≡ 0
+zero : (c : tie.Then-digit-eq0 invariant-walk decreases-walk) → bit c.args.alpha c.walk.p ≡ 0
 zero c = sym c.digit.ensures ∙ c.if-digit-eq0.true
 
-place : (c : tie.Then-digit-eq0 invariant-walk decreases-walk) → c.walk.p < (start c).args.n - (start c).args.low
+place : (c : tie.Then-digit-eq0 invariant-walk decreases-walk) → c.walk.p < c.args.n - c.args.low
 place c = omega arith
 
 other : (c : tie.Then-digit-eq0 invariant-walk decreases-walk)
-    → Row (start c).args.n (start c).args.d ((start c).args.low - (start c).args.d) ((start c).args.n - (start c).args.low)
-    ((start c).args.alpha + 2 ^ c.walk.p)
-other c = other_row (start c).requires.0.0 (place c) (zero c)
+    → Row c.args.n c.args.d (c.args.low - c.args.d) (c.args.n - c.args.low)
+    (c.args.alpha + 2 ^ c.walk.p)
+other c = other_row c.requires.0.0 (place c) (zero c)
 
 add_tried : tie.Need-overflow_add-tried invariant-walk decreases-walk
 add_tried c =
     omega (
       arith,
       counts c.walk.invariant.0 (_ ∷ []) _ (digit-zero _ _ _ _ _ (place c) (zero c)),
-      (start c).requires.1.1.1,
+      c.requires.1.1.1,
     )
 
 pow2_requires : tie.Need-pow2-requires invariant-walk decreases-walk
-pow2_requires c κs = omega (arith, (start c).requires.0.0.narrow)
+pow2_requires c κs = omega (arith, c.requires.0.0.narrow)
 
 add_block_at : tie.Need-overflow_add-alpha invariant-walk decreases-walk
 add_block_at c = omega (arith, c.pow2.ensures, alpha_lt (other c.before))
@@ -85,12 +85,11 @@ module _ (c : tie.Start invariant-walk decreases-walk) where
 
 block_at_requires : tie.Need-block_at-requires invariant-walk decreases-walk
 block_at_requires c κs =
-    let at = start c.before in
-    (omega (arith, at.pre.0.0.narrow), at.pre.0.0.narrow, rw c.pow2.ensures (inside at (other c.before)))
+    (omega (arith, c.requires.0.0.narrow), c.requires.0.0.narrow, rw c.pow2.ensures (inside (start_of c.before) (other c.before)))
 
 tree_member_requires : tie.Need-tree_member-requires invariant-walk decreases-walk
 tree_member_requires c κs =
-    ((omega arith, (start c.before.before.before).requires.0.0.narrow), (member_room (start c.before.before.before).requires.0.0 (place c.before.before.before) (zero c.before.before.before)).0)
+    ((omega arith, c.requires.0.0.narrow), (member_room c.requires.0.0 (place c.before.before.before) (zero c.before.before.before)).0)
 
 add_p : tie.Need-overflow_add-p invariant-walk decreases-walk
 add_p c = omega (arith, c.requires.0.0.narrow)
@@ -103,11 +102,11 @@ walk_again c =
     ⊎_elim
     (λ w.
     let z : bit c.args.alpha c.walk.p ≡ 0 = sym c.digit.ensures ∙ w.if-digit-eq0.true in
-    rw w.FIELD4 (
+    rw w.tried-is (
       misses c.walk.invariant.0 _ _ (digit-zero _ _ _ _ _ (omega arith) z)
           (one_fails _ refl _ (member_tested c.requires.0.0 _ _ (omega arith) c.requires.1.1.0
           (tested c.before.before.before.before _ _ (other_row c.requires.0.0 (omega arith) z) (ap (λ (x : ℕ). c.args.alpha + x) w.pow2.ensures)
-          w.block_at.ensures ∙ w.FIELD3.false))),
+          w.block_at.ensures ∙ w.if-block_at.false))),
       omega arith,
       omega arith,
     ))
@@ -127,8 +126,8 @@ returns_2 c =
     hits c.walk.invariant.0 _ _ (digit-zero _ _ _ _ _ (place c.before.before.before.before) (zero c.before.before.before.before))
     (one_passes _ c.tree_member.ensures _
     (ap (is_free _) c.tree_member.ensures
-    ∙ member_tested (start c.before.before.before.before).requires.0.0 _ _ (place c.before.before.before.before) (start c.before.before.before.before).requires.1.1.0
-    (tested (start c.before.before.before.before) _ _ (other c.before.before.before.before) (ap (λ (x : ℕ). (start c.before.before.before.before).args.alpha + x) c.pow2.ensures)
+    ∙ member_tested c.requires.0.0 _ _ (place c.before.before.before.before) c.requires.1.1.0
+    (tested (start_of c.before.before.before.before) _ _ (other c.before.before.before.before) (ap (λ (x : ℕ). c.args.alpha + x) c.pow2.ensures)
     c.block_at.ensures
     ∙ c.if-block_at.true)))
 

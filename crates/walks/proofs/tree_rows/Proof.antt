@@ -73,7 +73,7 @@ Row-at c = Row (start c).args.n 0 (start c).args.low ((start c).args.n - (start 
 row_at : (c : tie.Else-none_at invariant-loop-p decreases-loop-p invariant-walk decreases-walk) → Row-at c (α_of c)
 row_at c =
     let z : (start c).args.n - (start c).args.low + 0 ≡ (start c).args.n - (start c).args.low = omega arith in
-    record { narrow = omega arith; sum = omega arith; value = rw z (omega (arith, (test c).before.before.pow2.ensures)) }
+    record { narrow = omega arith; sum = omega arith; value = rw z (omega (arith, c.pow2-end.ensures)) }
 
 few : (c : tie.Start invariant-loop-p decreases-loop-p invariant-walk decreases-walk) → 0 + length (tree c.args.n (suc c.args.low)) ≤ 11264
 few c = omega (arith, tree_few c.args.n (suc c.args.low) (λ z. absurd (omega arith)) (omega arith) (omega arith))
@@ -121,9 +121,9 @@ loop-holds c =
     let low = (start at).args.low in
     let α = α_of at in
     let z : n - low ≡ n - low - 0 = omega arith in (
-      stays (test at).before.walk.inv.0
-          (left_next _ _ _ _ (test at).if1.left
-          ∙ ap (λ (m : ℕ). over (at_zero (tree_member n 0 low α) α) m 0 ++ left (row n low) (test at).before.before.pow2.result (α + 1) []) z),
+      stays (test at).before.walk.invariant.0
+          (left_next _ _ _ _ at.if-end-alpha.false
+          ∙ ap (λ (m : ℕ). over (at_zero (tree_member n 0 low α) α) m 0 ++ left (row n low) at.pow2-end.result (α + 1) []) z),
       omega arith,
     )
 
@@ -171,11 +171,11 @@ loop-again : tie.Need-loop-p-preserved invariant-loop-p decreases-loop-p invaria
 loop-again c =
     ⊎_elim
     (λ w.
-    rw w.FIELD4 (
+    rw w.tried-is (
       misses c.loop-p.invariant.0 _ _ (digit-zero _ _ _ _ _ c.loop-p-test.true (sym c.digit.ensures ∙ w.if-digit-eq0.true))
           (one_fails _ refl _
           (member_tested (row_at (row_of c.before.before.before.before)) _ _ (omega arith) (lower c.before.before.before.before) (sym (rw w.pow2.ensures at w.block_free-then-digit-eq0.ensures)
-          ∙ w.FIELD3.false))),
+          ∙ w.if-block_free-2.false))),
       omega arith,
     ))
     (λ w.
@@ -192,7 +192,7 @@ add_tried_2 : tie.Need-overflow_add-tried-else-block_free invariant-loop-p decre
 add_tried_2 c =
     omega (
       arith,
-      counts (test c.before.before.before).before.walk.invariant.0 (row (start c.before.before.before).args.n (start c.before.before.before).args.low (α_of c.before.before.before)) _ (left_next _ _ _ _ (test c.before.before.before).if1.false),
+      counts (test c.before.before.before).before.walk.invariant.0 (row (start c.before.before.before).args.n (start c.before.before.before).args.low (α_of c.before.before.before)) _ (left_next _ _ _ _ (test c.before.before.before).if-end-alpha.false),
       length-places (start c.before.before.before).args.n 0 (start c.before.before.before).args.low (α_of c.before.before.before) ((start c.before.before.before).args.n - (start c.before.before.before).args.low) 0,
       c.zero_digits-tried.ensures,
       few (start c.before.before.before),
@@ -207,10 +207,10 @@ walk_less c = omega arith
 walk_again : tie.Need-walk-preserved invariant-loop-p decreases-loop-p invariant-walk decreases-walk
 walk_again c =
     ⊎_elim
-    (λ w. rw (w.FIELD5, w.FIELD6) (stays w.FIELD3.inv.0 (left_done _ _ _ _ w.FIELD4.false), omega arith, omega arith))
+    (λ w. rw (w.tried-is, w.seen-is) (stays w.loop-p.invariant.0 (left_done _ _ _ _ w.loop-p-test.false), omega arith, omega arith))
     (λ w.
-    rw (w.FIELD2, w.FIELD3) (
-      misses (test c.before.before).before.walk.invariant.0 _ _ (left_next _ _ _ _ (test c.before.before).if1.false)
+    rw (w.tried-is, w.seen-is) (
+      misses (test c.before.before).before.walk.invariant.0 _ _ (left_next _ _ _ _ (test c.before.before).if-end-alpha.false)
           (row_misses _ _ (row_at c.before.before) _ _ w.zero_digits-tried.ensures (sym c.block_free.ensures ∙ w.if-block_free.false)),
       omega arith,
       omega arith,
