@@ -27,40 +27,36 @@ put_number_below t =
 abbrev claims : ℕ → put-number-lts.Claims
 claims t = (digit-of-reads.Asked, digit-of-reads.Learnt, put-byte-reads.Asked, put-byte-reads.Learnt, put_number_below t, put-number.Post)
 
-put_number_digit_of_requires : (t : ℕ) → put-number-lts.Need-digit-of-requires (claims t) (put_number_at t) put-number.Post
+put_number_digit_of_requires : (t : ℕ) → put-number-lts.Need-digit_of-requires (claims t) (put_number_at t) put-number.Post
 put_number_digit_of_requires t c κs = omega arith
 
-put_number_put_byte_requires : (t : ℕ) → put-number-lts.Need-put-byte-requires (claims t) (put_number_at t) put-number.Post
-put_number_put_byte_requires t c κs = omega (arith, length_one c.before.before.before.before.args.x (omega arith))
+put_number_put_byte_requires : (t : ℕ) → put-number-lts.Need-put_byte-requires (claims t) (put_number_at t) put-number.Post
+put_number_put_byte_requires t c κs = omega (arith, length_one c.args.x (omega arith))
 
-put_number_same_length : (t : ℕ) → put-number-lts.Need-same-length (claims t) (put_number_at t) put-number.Post
+put_number_same_length : (t : ℕ) → put-number-lts.Need-shape_of-out-then-x-lt10 (claims t) (put_number_at t) put-number.Post
 put_number_same_length t c = omega arith
 
-put_number_returns : (t : ℕ) → put-number-lts.Need-returns (claims t) (put_number_at t) put-number.Post
-put_number_returns t c =
-    number_one _ _ (omega arith) c.before.before.before.digit-of.ensures c.before.before.put_byte.ensures
+put_number_returns : (t : ℕ) → put-number-lts.Need-returns-then-x-lt10 (claims t) (put_number_at t) put-number.Post
+put_number_returns t c = number_one _ _ (omega arith) c.digit_of.ensures c.put_byte.ensures
 
-put_number_put_number_requires : (t : ℕ) → put-number-lts.Need-put-number-requires (claims t) (put_number_at t) put-number.Post
-put_number_put_number_requires t c κs = (omega arith, omega (arith, length_more c.before.before.before.args.x (omega arith) (omega arith)))
+put_number_put_number_requires : (t : ℕ) → put-number-lts.Need-put_number-next-requires (claims t) (put_number_at t) put-number.Post
+put_number_put_number_requires t c κs = (omega arith, omega (arith, length_more c.args.x (omega arith) (omega arith)))
 
-put_number_digit_of_requires_2 : (t : ℕ) → put-number-lts.Need-digit-of-requires-2 (claims t) (put_number_at t) put-number.Post
+put_number_digit_of_requires_2 : (t : ℕ) → put-number-lts.Need-digit_of-requires-2 (claims t) (put_number_at t) put-number.Post
 put_number_digit_of_requires_2 t c κs = omega arith
 
-put_number_put_byte_requires_2 : (t : ℕ) → put-number-lts.Need-put-byte-requires-2 (claims t) (put_number_at t) put-number.Post
-put_number_put_byte_requires_2 t c κs =
-    omega (arith, length_more c.before.before.before.before.before.before.before.before.args.x (omega arith) (omega arith))
+put_number_put_byte_requires_2 : (t : ℕ) → put-number-lts.Need-put_byte-requires-2 (claims t) (put_number_at t) put-number.Post
+put_number_put_byte_requires_2 t c κs = omega (arith, length_more c.args.x (omega arith) (omega arith))
 
-put_number_same_length_2 : (t : ℕ) → put-number-lts.Need-same-length-2 (claims t) (put_number_at t) put-number.Post
+put_number_same_length_2 : (t : ℕ) → put-number-lts.Need-shape_of-out (claims t) (put_number_at t) put-number.Post
 put_number_same_length_2 t c = omega arith
 
-put_number_returns_2 : (t : ℕ) → put-number-lts.Need-returns-2 (claims t) (put_number_at t) put-number.Post
+put_number_returns_2 : (t : ℕ) → put-number-lts.Need-returns (claims t) (put_number_at t) put-number.Post
 put_number_returns_2 t c =
-    let read = c.before.before.before in
-    number_more _ _ (omega arith) (omega arith) read.digit-of2.ensures read.before.before.before.before.put-number.ensures
-    c.before.before.put-byte2.ensures
+    number_more _ _ (omega arith) (omega arith) c.digit_of-2.ensures c.put_number-next.ensures c.put_byte-2.ensures
 
-pub +put-number-spec : {M : Type 1} → statement M
-+put-number-spec = close μ_put_number λ t. put-number-lts.spec (claims t) (put_number_at t) put-number.Post
+pub +put_number_spec : {M : Type 1} → statement M
++put_number_spec = close μ_put_number λ t. put-number-lts.spec (claims t) (put_number_at t) put-number.Post
     (put_number_digit_of_requires t)
     (put_number_put_byte_requires t)
     (put_number_same_length t)

@@ -78,23 +78,14 @@ same_length_3 c = search rules
 
 returns_3 : tie.Need-returns-in-Granted
 returns_3 c =
-    let at-put-last3 = c.before.before in
-    let at-put-item3 = at-put-last3.before.before.before.before.before in
-    let at-put-item2 = at-put-item3.before.before.before.before.before in
-    let at-put-item = at-put-item2.before.before.before.before.before in
-    let at-o3 = at-put-item.before.before.before.before in
-    said_put _ _ at-o3.in-Granted.is (item_then _ at-put-item.put_item.ensures
-    (item_then _ at-put-item2.put-item2.ensures (item_then _ at-put-item3.put-item3.ensures at-put-last3.put-last3.ensures)))
+    said_put _ _ c.in-Granted.is (item_then _ c.put_item-after_job.ensures
+    (item_then _ c.put_item-after_low.ensures (item_then _ c.put_item-after_stars.ensures c.put_last-in-Granted.ensures)))
 
 same_length_4 : tie.Need-shape_of-out-in-Refused
 same_length_4 c = search rules
 
 returns_4 : tie.Need-returns-in-Refused
-returns_4 c =
-    let at-put-last4 = c.before.before in
-    let at-put-item4 = at-put-last4.before.before.before.before.before in
-    let at-o4 = at-put-item4.before.before.before.before in
-    said_put _ _ at-o4.in-Refused.is (item_then _ at-put-item4.put-item4.ensures at-put-last4.put-last4.ensures)
+returns_4 c = said_put _ _ c.in-Refused.is (item_then _ c.put_item-after_number.ensures c.put_last-in-Refused.ensures)
 
 pub put_outcome_spec : {M : Type 1} → statement M
 put_outcome_spec =

@@ -26,13 +26,8 @@ same_length c = search rules
 returns : tie.Need-returns
 unfolding totals_of
 returns c =
-    let at-put-last = c.before.before in
-    let at-put-item4 = at-put-last.before.before.before.before.before in
-    let at-put-item3 = at-put-item4.before.before.before.before.before in
-    let at-put-item2 = at-put-item3.before.before.before.before.before in
-    let at-put-item = at-put-item2.before.before.before.before.before in
-    item_then _ at-put-item.put_item.ensures (item_then _ at-put-item2.put-item2.ensures
-    (item_then _ at-put-item3.put-item3.ensures (item_then _ at-put-item4.put-item4.ensures at-put-last.put_last.ensures)))
+    item_then _ c.put_item-after_total.ensures (item_then _ c.put_item-after_setup.ensures
+    (item_then _ c.put_item-after_done.ensures (item_then _ c.put_item-after_granted.ensures c.put_last.ensures)))
 
 pub put_totals_spec : {M : Type 1} → statement M
 put_totals_spec =
