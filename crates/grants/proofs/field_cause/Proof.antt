@@ -10,52 +10,53 @@ use Rattle.steps.proofs.Ways.{whole}
 use Rattle.grants.proofs.field_cause.Statement.{statement}
 use Rattle.grants.proofs.field_cause.Tie as tie
 
-dimension_requires : tie.Need-dimension-requires
-dimension_requires c κs = (whole _ c.before.requires).0
+dimension_requires : tie.Need-dimension-n-requires
+dimension_requires c κs = (whole _ c.requires).0
 
-is_offered_requires : tie.Need-is-offered-requires
+is_offered_requires : tie.Need-is_offered-offered-requires
 is_offered_requires c κs = tt
 
-returns : tie.Need-returns
+returns : tie.Need-returns-then-job-eq0
 unfolding field_cause
-returns c = number_first _ 0 (eq-eqb _ 0 c.if1.true)
+returns c = number_first _ 0 (eq-eqb _ 0 c.if-job-eq0.true)
 
-returns_2 : tie.Need-returns-2
+returns_2 : tie.Need-returns-then-n-k
 unfolding field_cause
 returns_2 c =
-    let dim = c.before.before.before in
-    let a = dim.before.before.args in
-    number_first _ 1 (ne_eqb _ 0 c.before.if1.false, lt-ltb (decode a.rec.now).n a.k (omega (arith, dim.dimension.ensures)))
+    let a = c.args in
+    number_first _ 1 (ne_eqb _ 0 c.if-job-eq0.false, lt-ltb (decode a.rec.now).n a.k (omega (arith, c.dimension-n.ensures)))
 
-returns_3 : tie.Need-returns-3
+returns_3 : tie.Need-returns-then-not-offered
 unfolding field_cause
 returns_3 c =
-    let set = c.before.before in
-    let offered = set.before in
-    let dim = offered.before in
-    let a = dim.before.before.args in
+    let a = c.args in
     number_first _ 2 (
-      ne_eqb _ 0 set.if1.false,
+      ne_eqb _ 0 c.if-job-eq0.false,
       (
-        le-ltb (decode a.rec.now).n a.k (omega (arith, dim.dimension.ensures)),
-        ap not (sym offered.is-offered.ensures) ∙ c.if3.true,
+        le-ltb (decode a.rec.now).n a.k (omega (arith, c.dimension-n.ensures)),
+        ap not (sym c.is_offered-offered.ensures) ∙ c.if-not-offered.true-raw,
       ),
     )
 
-returns_4 : tie.Need-returns-4
+returns_4 : tie.Need-returns
 unfolding field_cause
 returns_4 c =
-    let set = c.before.before in
-    let offered = set.before in
-    let dim = offered.before in
-    let a = dim.before.before.args in
+    let a = c.args in
     none_first _ (
-      ne_eqb _ 0 set.if1.false,
+      ne_eqb _ 0 c.if-job-eq0.false,
       (
-        le-ltb (decode a.rec.now).n a.k (omega (arith, dim.dimension.ensures)),
-        (ap not (sym offered.is-offered.ensures) ∙ c.if3.false, tt),
+        le-ltb (decode a.rec.now).n a.k (omega (arith, c.dimension-n.ensures)),
+        (ap not (sym c.is_offered-offered.ensures) ∙ c.if-not-offered.false-raw, tt),
       ),
     )
 
 pub field_cause_spec : {M : Type 1} → statement M
-field_cause_spec = tie.close (tie.spec dimension_requires is_offered_requires returns returns_2 returns_3 returns_4)
+field_cause_spec =
+    tie.close
+    (tie.spec
+    dimension_requires
+    is_offered_requires
+    returns
+    returns_2
+    returns_3
+    returns_4)

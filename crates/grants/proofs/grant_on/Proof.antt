@@ -12,77 +12,58 @@ use Rattle.record.proofs.Round.{sized-decode}
 use Rattle.grants.proofs.grant_on.Statement.{statement}
 use Rattle.grants.proofs.grant_on.Tie as tie
 
-load_map_requires : tie.Need-load-map-requires
-load_map_requires c κs = (whole _ c.before.before.requires.0.right).0
+load_map_requires : tie.Need-load_map-map-requires
+load_map_requires c κs = (whole _ c.requires.0.right).0
 
-walk_of_requires : tie.Need-walk_of-requires
+walk_of_requires : tie.Need-walk_of-walk-requires
 walk_of_requires c κs =
-    let start = c.before.before.before.before.before in
-    (start.requires.0.right, (c.before.before.load-map.ensures, start.requires.1))
+    (c.requires.0.right, (c.load_map-map.ensures, c.requires.1))
 
-enum_known_walk : tie.Need-enum-known-walk
+enum_known_walk : tie.Need-enum_known-walk
 enum_known_walk c = search rules
 
-enum_told : tie.Need-enum-told
+enum_told : tie.Need-enum_told-1
 enum_told c = search rules
 
-tried_in_requires : tie.Need-tried-in-requires
+tried_in_requires : tie.Need-tried_in-requires
 tried_in_requires c κs = search rules
 
-same_length : tie.Need-same-length
+same_length : tie.Need-shape_of-rec-in_default
 same_length c = search rules
 
-returns : tie.Need-returns
+returns : tie.Need-returns-in_default
 returns c =
-    let told = c.before in
-    let walk = told.before.before in
     told_only _ _ (Refused 14 _) (λ z. absurd (omega arith))
-    (grant_14 _ _ _ _ walk.walk_of.ensures _ told.enum_told.given.1 _ c.tried-in.ensures)
+    (grant_14 _ _ _ _ c.walk_of-walk.ensures _ c.in_default.is _ c.tried_in.ensures)
 
-node_of_requires : tie.Need-node-of-requires
+node_of_requires : tie.Need-node_of-low-requires
 node_of_requires c κs =
-    let load = c.before.before.before.before.before.before.before in
-    map_directions _ load.before.before.before.requires.0.right load.load-map.ensures
+    map_directions _ c.requires.0.right c.load_map-map.ensures
 
-stars_of_requires : tie.Need-stars-of-requires
+stars_of_requires : tie.Need-stars_of-stars-requires
 stars_of_requires c κs =
-    let load = c.before.before.before.before.before.before.before.before.before in
-    map_directions _ load.before.before.before.requires.0.right load.load-map.ensures
+    map_directions _ c.requires.0.right c.load_map-map.ensures
 
 lose_requires : tie.Need-lose-requires
 lose_requires c κs = search rules
 
 give_requires : tie.Need-give-requires
-give_requires c κs =
-    let lost = c.before.before.before in
-    let second = lost.before.before in
-    let first = second.before.before in
-    let told = first.before.before.before in
-    let walk = told.before.before in
-    let load = walk.before.before.before in
-    let start = load.before.before.before in (
-      lost-whole _ (sized-decode _) _ lost.lose.ensures,
-      lowest_of _ (state_valid _ start.requires.0.right) start.args.job start.args.k start.args.strategy start.requires.1 _ _
-          (sym walk.walk_of.ensures ∙ told.walk.given.1)
-          load.load-map.ensures first.node_of.ensures second.stars_of_lem.ensures,
-    )
+give_requires c κs = (
+  lost-whole _ (sized-decode _) _ c.lose.ensures,
+  lowest_of _ (state_valid _ c.requires.0.right) c.args.job c.args.k c.args.strategy c.requires.1 _ _
+      (sym c.walk_of-walk.ensures ∙ c.in-Found.is)
+      c.load_map-map.ensures c.node_of-low.ensures c.stars_of-stars.ensures,
+)
 
-same_length_2 : tie.Need-same-length-2
+same_length_2 : tie.Need-shape_of-rec
 same_length_2 c = search rules
 
-returns_2 : tie.Need-returns-2
+returns_2 : tie.Need-returns
 returns_2 c =
-    let gave = c.before.before in
-    let lost = gave.before.before.before.before in
-    let stars = lost.before.before in
-    let low = stars.before.before in
-    let told = low.before.before.before in
-    let walk = told.before.before in
-    let load = walk.before.before.before in
     accepts _ _ _ refl
-    (grant_found _ _ _ _ walk.walk_of.ensures _ _ told.walk.given.1
-    load.load-map.ensures _ low.node_of.ensures _ stars.stars_of_lem.ensures)
-    (lost-taken _ (sized-decode _) _ lost.lose.ensures _ _ gave.give.ensures)
+    (grant_found _ _ _ _ c.walk_of-walk.ensures _ _ c.in-Found.is
+    c.load_map-map.ensures _ c.node_of-low.ensures _ c.stars_of-stars.ensures)
+    (lost-taken _ (sized-decode _) _ c.lose.ensures _ _ c.give.ensures)
 
 pub grant_on_spec : {M : Type 1} → statement M
 grant_on_spec =

@@ -8,4 +8,7 @@ returns : tie.Need-returns
 returns c = sym (offered_below _)
 
 pub is_offered_spec : {M : Type 1} → statement M
-is_offered_spec = tie.close (tie.spec returns)
+is_offered_spec =
+    tie.close
+    (tie.spec
+    returns)

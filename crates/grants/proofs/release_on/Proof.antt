@@ -14,56 +14,47 @@ use Rattle.grants.proofs.release_on.Tie as tie
 refused_requires : tie.Need-refused-requires
 refused_requires c κs = search rules
 
-returns : tie.Need-returns
-returns c = refuses_at _ _ _ 0 (λ z. absurd (omega arith)) (eq-eqb _ 0 c.before.if1.true) c.refused.ensures
+returns : tie.Need-returns-then-job-eq0
+returns c = refuses_at _ _ _ 0 (λ z. absurd (omega arith)) (eq-eqb _ 0 c.if-job-eq0.true) c.refused.ensures
 
-nodes_of_requires : tie.Need-nodes-of-requires
+nodes_of_requires : tie.Need-nodes_of-size-requires
 nodes_of_requires c κs = search rules
 
-count_held_requires : tie.Need-count-held-requires
-count_held_requires c κs = ((whole _ c.before.before.before.before.before.requires).0, c.before.nodes-of.ensures.1)
+count_held_requires : tie.Need-count_held-count-requires
+count_held_requires c κs = ((whole _ c.requires).0, c.nodes_of-size.ensures.1)
 
-refused_requires_2 : tie.Need-refused-requires-2
+refused_requires_2 : tie.Need-refused-requires-then-count-eq0
 refused_requires_2 c κs = search rules
 
-same_length : tie.Need-same-length
+same_length : tie.Need-shape_of-rec-then-count-eq0
 same_length c = search rules
 
-returns_2 : tie.Need-returns-2
+returns_2 : tie.Need-returns-then-count-eq0
 returns_2 c =
-    let at = c.before.before in
-    let count = at.before.before in
-    let test = count.before.before in
-    let a = test.before.before.args in
+    let a = c.args in
     refuses_at _ _ _ 1 (λ z. absurd (omega arith)) (
-      ne_eqb _ 0 test.if1.false,
-      ap not (holds_none (decode a.rec.now) a.job _ _ count.nodes-of.ensures.0 at.count_held.ensures c.before.if2.true),
+      ne_eqb _ 0 c.if-job-eq0.false,
+      ap not (holds_none (decode a.rec.now) a.job _ _ c.nodes_of-size.ensures.0 c.count_held-count.ensures c.if-count-eq0.true),
     )
-    c.refused2.ensures
+    c.refused-then-count-eq0.ensures
 
 clear_requires : tie.Need-clear-requires
 clear_requires c κs =
-    let count = c.before.before.before.before in
-    let v = count.before.before.before.before.requires in
-    (whole _ v, none_beyond _ v count.nodes-of.ensures.0 count.nodes-of.ensures.1)
+    let v = c.requires in
+    (whole _ v, none_beyond _ v c.nodes_of-size.ensures.0 c.nodes_of-size.ensures.1)
 
-same_length_2 : tie.Need-same-length-2
+same_length_2 : tie.Need-shape_of-rec
 same_length_2 c = search rules
 
-returns_3 : tie.Need-returns-3
+returns_3 : tie.Need-returns
 returns_3 c =
-    let stored = c.before.before in
-    let tested = stored.before.before in
-    let at = tested.before in
-    let count = at.before.before in
-    let test = count.before.before in
-    let a = test.before.before.args in
-    let e = count.nodes-of.ensures.0 in
-    let q = at.count_held.ensures in
+    let a = c.args in
+    let e = c.nodes_of-size.ensures.0 in
+    let q = c.count_held-count.ensures in
     accepts _ _ _ refl
-    (runs _ _ _ (ne_eqb _ 0 test.if1.false, (ap not (holds_some (decode a.rec.now) a.job _ _ e q tested.if2.false), tt))
+    (runs _ _ _ (ne_eqb _ 0 c.if-job-eq0.false, (ap not (holds_some (decode a.rec.now) a.job _ _ e q c.if-count-eq0.false), tt))
     (done_as _ (counted (decode a.rec.now) a.job _ _ e q)))
-    stored.clear.ensures
+    c.clear.ensures
 
 pub release_on_spec : {M : Type 1} → statement M
 release_on_spec =

@@ -8,66 +8,55 @@ use Rattle.steps.proofs.Ways.{whole, refuses, by_step}
 use Rattle.grants.proofs.request_on.Statement.{statement}
 use Rattle.grants.proofs.request_on.Tie as tie
 
-field_cause_requires : tie.Need-field-cause-requires
+field_cause_requires : tie.Need-field_cause-cause-requires
 field_cause_requires c κs = search rules
 
 refused_requires : tie.Need-refused-requires
 refused_requires c κs = search rules
 
-same_length : tie.Need-same-length
+same_length : tie.Need-shape_of-rec-then-cause-ne0
 same_length c = search rules
 
-returns : tie.Need-returns
-returns c = refuses _ _ c.before.if1.true (fields-refused _ _ _ _ _ c.before.before.field-cause.ensures _ _ c.before.if1.true)
+returns : tie.Need-returns-then-cause-ne0
+returns c = refuses _ _ c.if-cause-ne0.true (fields-refused _ _ _ _ _ c.field_cause-cause.ensures _ _ c.if-cause-ne0.true)
     c.refused.ensures
 
-nodes_of_requires : tie.Need-nodes-of-requires
+nodes_of_requires : tie.Need-nodes_of-requires
 nodes_of_requires c κs = search rules
 
-count_held_requires : tie.Need-count-held-requires
-count_held_requires c κs = ((whole _ c.before.before.before.before.before.before.requires).0, c.nodes-of.ensures.1)
+count_held_requires : tie.Need-count_held-held-requires
+count_held_requires c κs = ((whole _ c.requires).0, c.nodes_of.ensures.1)
 
-refused_requires_2 : tie.Need-refused-requires-2
+refused_requires_2 : tie.Need-refused-requires-then-held-ne0
 refused_requires_2 c κs = search rules
 
-same_length_2 : tie.Need-same-length-2
+same_length_2 : tie.Need-shape_of-rec-then-held-ne0
 same_length_2 c = search rules
 
-returns_2 : tie.Need-returns-2
+returns_2 : tie.Need-returns-then-held-ne0
 returns_2 c =
-    let at = c.before.before in
-    let count = at.before in
-    let fields = count.before.before.before in
-    let a = fields.before.before.before.args in
+    let a = c.args in
     refuses _ _ (λ z. absurd (omega arith))
-    (fields_stopped _ _ _ _ _ fields.field-cause.ensures count.before.before.if1.false _ _ 0
-    (holds_some (decode a.rec.now) a.job _ _ count.nodes-of.ensures.0 at.count_held.ensures c.before.if2.true))
-    c.refused2.ensures
+    (fields_stopped _ _ _ _ _ c.field_cause-cause.ensures c.if-cause-ne0.false _ _ 0
+    (holds_some (decode a.rec.now) a.job _ _ c.nodes_of.ensures.0 c.count_held-held.ensures c.if-held-ne0.true))
+    c.refused-then-held-ne0.ensures
 
-grant_on_requires : tie.Need-grant-on-requires
+grant_on_requires : tie.Need-grant_on-requires
 grant_on_requires c κs =
-    let at = c.before.before in
-    let count = at.before in
-    let fields = count.before.before.before in
-    let start = fields.before.before.before in
-    let fit = fields_fit _ _ _ _ _ fields.field-cause.ensures count.before.before.if1.false in
-    let held = counted (decode start.args.rec.now) start.args.job _ _ count.nodes-of.ensures.0 at.count_held.ensures in
-    (record { right = start.requires; set = fit.0; counted = held }, fit.1)
+    let fit = fields_fit _ _ _ _ _ c.field_cause-cause.ensures c.if-cause-ne0.false in
+    let held = counted (decode c.args.rec.now) c.args.job _ _ c.nodes_of.ensures.0 c.count_held-held.ensures in
+    (record { right = c.requires; set = fit.0; counted = held }, fit.1)
 
-same_length_3 : tie.Need-same-length-3
+same_length_3 : tie.Need-shape_of-rec
 same_length_3 c = search rules
 
-returns_3 : tie.Need-returns-3
+returns_3 : tie.Need-returns
 returns_3 c =
-    let granted = c.before.before in
-    let at = granted.before.before.before in
-    let count = at.before in
-    let fields = count.before.before.before in
-    let a = fields.before.before.before.args in
-    let none = holds_none (decode a.rec.now) a.job _ _ count.nodes-of.ensures.0 at.count_held.ensures (omega arith) in
+    let a = c.args in
+    let none = holds_none (decode a.rec.now) a.job _ _ c.nodes_of.ensures.0 c.count_held-held.ensures (omega arith) in
     by_step _
-    (fields_run _ _ _ _ _ fields.field-cause.ensures count.before.before.if1.false _ _ (none, tt) refl)
-    granted.grant-on.ensures
+    (fields_run _ _ _ _ _ c.field_cause-cause.ensures c.if-cause-ne0.false _ _ (none, tt) refl)
+    c.grant_on.ensures
 
 pub request_on_spec : {M : Type 1} → statement M
 request_on_spec =
