@@ -11,49 +11,42 @@ use Rattle.allocator.proofs.call_on.Tie as tie
 sized : (c : tie.Start) → Sized c.args.s
 sized c = record { directions = search rules; holders = search rules; conditions = search rules; stars = search rules }
 
-slice_aggregate_store : tie.Need-slice-aggregate-store
+slice_aggregate_store : tie.Need-slice_bounds-store-end
 slice_aggregate_store c = search rules
 
 store_requires : tie.Need-store-requires
 store_requires c κs = search rules
 
-slice_aggregate_is_valid : tie.Need-slice-aggregate-is-valid
+slice_aggregate_is_valid : tie.Need-slice_bounds-is_valid-end
 slice_aggregate_is_valid c = search rules
 
-is_valid_requires : tie.Need-is-valid-requires
+is_valid_requires : tie.Need-is_valid-requires
 is_valid_requires c κs = search rules
 
 refused_requires : tie.Need-refused-requires
 refused_requires c κs = search rules
 
-returns : tie.Need-returns
+returns : tie.Need-returns-then-not-is_valid
 returns c =
-    let tested = c.before.before in
-    let stored = tested.before.before.before in
-    let start = stored.before.before in
-    by_record_1 _ (sized start) start.args.c stored.store.ensures
-    (sym tested.is-valid.ensures ∙ not-true _ c.before.if1.true) c.refused.ensures
+    by_record_1 _ (sized c.before.before.before.before.before.before.before) c.args.c c.store.ensures
+    (sym c.is_valid.ensures ∙ not-true _ c.if-not-is_valid.true-raw) c.refused.ensures
 
-slice_aggregate_call_record : tie.Need-slice-aggregate-call-record
+slice_aggregate_call_record : tie.Need-slice_bounds-call_record-end
 slice_aggregate_call_record c = search rules
 
-call_record_requires : tie.Need-call-record-requires
-call_record_requires c κs = sym c.before.before.is-valid.ensures ∙ not-false _ c.before.if1.false
+call_record_requires : tie.Need-call_record-reply-requires
+call_record_requires c κs = sym c.is_valid.ensures ∙ not-false _ c.if-not-is_valid.false-raw
 
-slice_aggregate_load : tie.Need-slice-aggregate-load
+slice_aggregate_load : tie.Need-slice_bounds-load-end
 slice_aggregate_load c = search rules
 
-load_requires : tie.Need-load-requires
+load_requires : tie.Need-load-state-requires
 load_requires c κs = search rules
 
-returns_2 : tie.Need-returns-2
+returns_2 : tie.Need-returns
 returns_2 c =
-    let did = c.before.before.before in
-    let test = did.before.before in
-    let stored = test.before.before.before.before in
-    let start = stored.before.before in
-    by_record _ (sized start) start.args.c stored.store.ensures (sym test.before.is-valid.ensures ∙ not-false _ test.if1.false)
-    did.call_record.ensures c.load.ensures
+    by_record _ (sized c.before.before.before.before.before.before.before.before.before.before.before) c.args.c c.store.ensures (sym c.is_valid.ensures ∙ not-false _ c.if-not-is_valid.false-raw)
+    c.call_record-reply.ensures c.load-state.ensures
 
 pub call_on_spec : {M : Type 1} → statement M
 call_on_spec =

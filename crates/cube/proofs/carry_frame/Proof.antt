@@ -5,30 +5,29 @@ use Rattle.cube.proofs.Ways.{by_frame, frame_refused}
 use Rattle.cube.proofs.carry_frame.Statement.{statement}
 use Rattle.cube.proofs.carry_frame.Tie as tie
 
-enum_known_p : tie.Need-enum-known-p
+enum_known_p : tie.Need-enum_known-p
 enum_known_p c = search rules
 
-call_record_requires : tie.Need-call-record-requires
+call_record_requires : tie.Need-call_record-requires
 call_record_requires c κs = search rules
 
-enum_known_p_2 : tie.Need-enum-known-p-2
+enum_known_p_2 : tie.Need-enum_known-p-in-Bad-1
 enum_known_p_2 c = search rules
 
 refused_requires : tie.Need-refused-requires
 refused_requires c κs = search rules
 
-same_length : tie.Need-same-length
+same_length : tie.Need-shape_of-rec
 same_length c = search rules
 
-returns : tie.Need-returns
+returns : tie.Need-returns-in-Known
 returns c =
-    by_frame _ c.before.before.before.before.before.p.given.1 c.before.before.call_record.ensures
+    by_frame _ c.in-Known.is c.call_record.ensures
 
-returns_2 : tie.Need-returns-2
+returns_2 : tie.Need-returns-in-Bad
 returns_2 c =
-    let start = c.before.before.before.before in
-    by_frame _ c.before.before.p2.given.1
-    (frame_refused _ start.before.requires (λ i. omega (arith, start.slice-known.given i)) _ c.refused.ensures)
+    by_frame _ c.in-Bad.is
+    (frame_refused _ c.requires (λ i. omega (arith, c.slice_known-1.given i)) _ c.refused.ensures)
 
 pub carry_frame_spec : {M : Type 1} → statement M
 carry_frame_spec =

@@ -19,48 +19,46 @@ use Rattle.cube.proofs.cube_load.Tie as tie
 in_all : (test : List ℕ → Bool) (r : List ℕ) → length r ≡ record_size → {b : Bool} → test (take record_size r) ≡ b → test r ≡ b
 in_all test r e {b} = subst (λ (l : List ℕ). test l ≡ b) (take_all record_size r (omega arith))
 
-returns : tie.Need-returns
+returns : tie.Need-returns-then-rec-ne-SIZE
 returns c = load_1 _ (sym (not_size _ (omega arith)))
 
-head_right_requires : tie.Need-head-right-requires
+head_right_requires : tie.Need-head_right-requires
 head_right_requires c κs = search rules
 
-returns_2 : tie.Need-returns-2
-returns_2 c = load_1 _ (sym (not_head _ (omega arith) (sym c.before.head-right.ensures ∙ not-true _ c.if2.true)))
+returns_2 : tie.Need-returns-then-not-head_right
+returns_2 c = load_1 _ (sym (not_head _ (omega arith) (sym c.head_right.ensures ∙ not-true _ c.if-not-head_right.true-raw)))
 
-sub_whole : tie.Need-overflow-sub-whole
+sub_whole : tie.Need-slice_bounds-whole-count
 sub_whole c = search rules
 
-part_whole_start : tie.Need-slice-bounds-whole-start
+part_whole_start : tie.Need-slice_bounds-whole-start
 part_whole_start c = search rules
 
-part_whole_end : tie.Need-slice-bounds-whole-end
+part_whole_end : tie.Need-slice_bounds-whole-end
 part_whole_end c = search rules
 
-is_valid_requires : tie.Need-is-valid-requires
+is_valid_requires : tie.Need-is_valid-requires
 is_valid_requires c κs = search rules
 
-returns_3 : tie.Need-returns-3
+returns_3 : tie.Need-returns-then-not-is_valid
 returns_3 c =
-    let r = c.before.before.before.before.before.before.before.args.rec.now in
-    load_1 r (in_all valid_record r (omega arith) (sym c.before.is-valid.ensures ∙ not-true _ c.if3.true))
+    let r = c.args.rec.now in
+    load_1 r (in_all valid_record r (omega arith) (sym c.is_valid.ensures ∙ not-true _ c.if-not-is_valid.true-raw))
 
-is_formed_requires : tie.Need-is-formed-requires
-is_formed_requires c κs = sym c.before.is-valid.ensures ∙ not-false _ c.if3.false
+is_formed_requires : tie.Need-is_formed-requires
+is_formed_requires c κs = sym c.is_valid.ensures ∙ not-false _ c.if-not-is_valid.false-raw
 
-returns_4 : tie.Need-returns-4
+returns_4 : tie.Need-returns-then-not-is_formed
 returns_4 c =
-    let test = c.before.before in
-    let r = test.before.before.before.before.before.before.before.args.rec.now in
-    load_18 r (in_all valid_record r (omega arith) (sym test.before.is-valid.ensures ∙ not-false _ test.if3.false))
-    (in_all (λ r. (formed_record r).test) r (omega arith) (sym c.before.is-formed.ensures ∙ not-true _ c.if4.true))
+    let r = c.args.rec.now in
+    load_18 r (in_all valid_record r (omega arith) (sym c.is_valid.ensures ∙ not-false _ c.if-not-is_valid.false-raw))
+    (in_all (λ r. (formed_record r).test) r (omega arith) (sym c.is_formed.ensures ∙ not-true _ c.if-not-is_formed.true-raw))
 
-returns_5 : tie.Need-returns-5
+returns_5 : tie.Need-returns
 returns_5 c =
-    let test = c.before.before in
-    let r = test.before.before.before.before.before.before.before.args.rec.now in
-    load_0 r (in_all valid_record r (omega arith) (sym test.before.is-valid.ensures ∙ not-false _ test.if3.false))
-    (in_all (λ r. (formed_record r).test) r (omega arith) (sym c.before.is-formed.ensures ∙ not-false _ c.if4.false))
+    let r = c.args.rec.now in
+    load_0 r (in_all valid_record r (omega arith) (sym c.is_valid.ensures ∙ not-false _ c.if-not-is_valid.false-raw))
+    (in_all (λ r. (formed_record r).test) r (omega arith) (sym c.is_formed.ensures ∙ not-false _ c.if-not-is_formed.false-raw))
 
 pub cube_load_spec : {M : Type 1} → statement M
 cube_load_spec =
