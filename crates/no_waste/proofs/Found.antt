@@ -104,7 +104,7 @@ module _ (n k : ℕ) (f : ℕ → Bool) (small : n ≤ width) (fits : k ≤ n) (
   found_part c t e =
       let r = found_least n k f small c t e in
       let B = (in_maximal f n 0 small r.0).0 r.1.entry in
-      let h : k ≤ B.e = dimension_le k B.e (subst (λ (c : Subcube). 2 ^ k - 1 ≤ c.stars) B.is r.1.at_least_lem) in
+      let h : k ≤ B.e = dimension_le k B.e (subst (λ (c : Subcube). 2 ^ k - 1 ≤ c.stars) B.is r.1.at_least) in
       let z : k + (B.e - k) ≡ B.e = omega arith in
       let a : ℕ = B.β * 2 ^ (B.e - k) in
       record {
