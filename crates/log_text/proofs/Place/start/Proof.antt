@@ -10,4 +10,8 @@ returns : tie.Need-returns
 returns c = rw c.none.ensures
 
 pub start_spec : {M : Type 1} → statement M
-start_spec = tie.close (tie.spec none_requires returns)
+start_spec =
+    tie.close
+    (tie.spec
+    none_requires
+    returns)
