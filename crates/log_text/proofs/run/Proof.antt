@@ -27,7 +27,7 @@ loop-less c =
 
 loop-again : tie.Need-loop-rec-preserved invariant-loop-rec decreases-loop-rec
 loop-again c =
-    (running_more _ _ c.loop-rec.invariant.0 c.turn-q.ensures, c.turn-q.auto.0 ∙ c.loop-rec.invariant.1)
+    (running_more _ _ c.loop-rec.invariant.0 c.turn-q.ensures, c.turn-q.auto.rec ∙ c.loop-rec.invariant.1)
 
 same_length : tie.Need-shape_of-rec invariant-loop-rec decreases-loop-rec
 same_length c = c.loop-rec.invariant.1
