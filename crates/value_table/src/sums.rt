@@ -31,7 +31,7 @@ fn with_words(before: u32, words: &[u16]) -> u32 {
     sum
 }
 
-pub(crate) fn of_state(s: State) -> u32 {
+pub(crate) fn of_state(s: &State) -> u32 {
     let head = added(with_bytes(added(0, s.n), &s.map, 0), 0);
     let nodes = with_bytes(with_words(head, &s.holders), &s.conditions, 0);
     with_words(nodes, &s.stars)
