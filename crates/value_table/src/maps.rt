@@ -21,11 +21,9 @@ fn spread(n: u8, a: u8, b: u8) -> [u8; 10]
 {
     let mut map: [u8; 10] = [1, 2, 3, 4, 5, 6, 7, 8, 9, 10];
     let mut new = b;
-    let mut i: usize = 0;
-    while i < n as usize {
+    for i in 0..n as usize {
         map[i] = new + 1;
         new = further(n, a, new);
-        i += 1;
     }
     map
 }
@@ -80,10 +78,8 @@ fn table(rt: &impl Print, n: u16, step: u16, map: [u8; 10]) -> io::Result<()>
 {
     show_map(rt, n, &map)?;
     let count = hypercube::pow2(n);
-    let mut x: u16 = 0;
-    while x < count {
+    for x in (0..count).step_by(step as usize) {
         show_number(rt, &map, x)?;
-        x += step;
     }
     Ok(())
 }
