@@ -55,7 +55,7 @@ fn others(rt: &impl Print, before: State, rec: &mut [u8]) -> io::Result<()> {
 fn state(rt: &impl Print, change: u32) -> io::Result<()> {
     let s = changed(change);
     let mut rec = [0; record::SIZE];
-    record::store(&s, &mut rec);
+    record::store(s, &mut rec);
     print::text(rt, b"damaged")?;
     print::next(rt, change)?;
     pair::show_sums(rt, &s, &rec)?;
