@@ -1,14 +1,8 @@
 -- A turn of the program is a turn of a run, by what was due. Assumes nothing.
-use Prim.Native.Nat.{ℕ, ◌+◌, ◌-◌, ◌<◌, ◌≤◌}
-use mathlib.Core.Path.{◌≡◌, refl, sym, ap, subst, ◌∙◌}
-use mathlib.Core.Logic.{inl, inr}
-use mathlib.Core.Bool.{Bool, true, false, not, ◌&&◌, true≢false, false≢true}
-use mathlib.Core.List.{List, [], ◌++◌}
-use native.Mathlib.Omega.{arith}
-use lib.Dec.{eqb}
-use lib.IntN.{ℤ, pos, negsuc}
-use lib.ListN.{length, take, drop, length-take}
-use Rattle.io.specs.Counts.{clamp_len}
+use Rattle.std.proofs.Common.{◌≡◌, ℕ, ◌+◌, ◌-◌, ◌<◌, ◌≤◌, Bool, true, false, not, ◌&&◌, List, [], ◌++◌, length, nat_eq, None, Some, refl, sym, ap, subst, ◌∙◌, arith, append_assoc, append-nil, inl, inr}
+use Rattle.std.specs.declared.option.Option.{Option}
+use mathlib.Core.Bool.{true≢false, false≢true}
+use Rattle.std.specs.Io.KnownBytes.{Consumes, Appends}
 use Rattle.log_stream.specs.declared.Stream.{Stream}
 use Rattle.log_stream.specs.Streams.{start, wrote, unwritten, Ready, Advanced}
 use Rattle.log_stream.specs.Runs.{piece, begins, reads, writes, Reached, turns}
@@ -16,70 +10,117 @@ use Rattle.log_stream.proofs.Theorem.{holds, run_right}
 use Rattle.cube_run.specs.declared.Progress.{Progress}
 use Rattle.cube_run.specs.Turns.{Fed, after_write, Handed, OneMore, Finished}
 
--- a write that didn't fail was made
-made : (u : Stream) (p : Progress) (written : Bool) → p ≡ after_write written u → p.failed ≡ false → p.stream ≡ wrote u
-made u p true e f = ap (λ (x : Progress). x.stream) e
-made u p false e f = absurd (true≢false (sym (ap (λ (x : Progress). x.failed) e) ∙ f))
+-- ---- known bytes: none are read or written, and one piece after the other
 
--- as many bytes as a read can put into the part of a window from a place on
-pub clamped_fits : (from : ℕ) (window w : List ℕ) (z : ℤ) → length w ≡ length window → from ≤ length window
-    → from + clamp_len z (length (take (length w - from) (drop from w))) ≤ length window
-clamped_fits from window w z same h =
-    omega (arith, clamped_le z (length (take (length w - from) (drop from w))), length-take (length w - from) (drop from w), same)
-  where
-    clamped_le : (z : ℤ) (most : ℕ) → clamp_len z most ≤ most
-    clamped_le (pos k) most = omega arith
-    clamped_le (negsuc k) most = omega arith
+consumes_none : (k : Option (List ℕ)) → Consumes k k []
+consumes_none None = tt
+consumes_none (Some xs) = refl
+
+appends_none : (k : Option (List ℕ)) → Appends k k []
+appends_none None = tt
+appends_none (Some xs) = sym (append-nil xs)
+
+consumes_more : (k l m : Option (List ℕ)) (xs ys : List ℕ) → Consumes k l xs → Consumes l m ys → Consumes k m (xs ++ ys)
+consumes_more None l m xs ys c d = tt
+consumes_more (Some ks) None m xs ys c d = absurd c
+consumes_more (Some ks) (Some ls) None xs ys c d = absurd d
+consumes_more (Some ks) (Some ls) (Some ms) xs ys c d = c ∙ ap (λ zs. xs ++ zs) d ∙ sym (append_assoc xs ys ms)
+
+appends_more : (k l m : Option (List ℕ)) (xs ys : List ℕ) → Appends k l xs → Appends l m ys → Appends k m (xs ++ ys)
+appends_more None l m xs ys c d = tt
+appends_more (Some ks) None m xs ys c d = absurd c
+appends_more (Some ks) (Some ls) None xs ys c d = absurd d
+appends_more (Some ks) (Some ls) (Some ms) xs ys c d = d ∙ ap (λ zs. zs ++ ys) c ∙ append_assoc ks xs ys
+
+-- a write that didn't fail was made
+written : (u : Stream) (p : Progress) (w : Bool) → p ≡ after_write w u → p.failed ≡ false → w ≡ true
+written u p true e f = refl
+written u p false e f = sym (sym (ap (λ (x : Progress). x.failed) e) ∙ f)
+
+made : (u : Stream) (p : Progress) (w : Bool) → p ≡ after_write w u → w ≡ true → p.stream ≡ wrote u
+made u p w e h = ap (λ (x : Progress). x.stream) (e ∙ ap (λ (b : Bool). after_write b u) h)
 
 module _ {s u : Stream} {r w out r' w' out' : List ℕ} (A : Advanced s r w out u r' w' out') where
-  pub reached_read : {t : Stream} {w'' : List ℕ} → u.place.waits ≡ true → Fed u w' t w'' → s.place.ended ≡ false → (b window output : List ℕ)
-      → (R : Reached b window output s r w out) → OneMore R t r' w'' out'
-  reached_read {w'' = w''} k F on b window output R =
-      subst (λ (x : Stream). OneMore R x r' w'' out') (sym F.stream)
+  pub reached_read : {t : Stream} {w'' : List ℕ} {left left' : Option (List ℕ)} (held : Option (List ℕ)) → u.place.waits ≡ true
+      → Fed left left' u w' t w'' → s.place.ended ≡ false → (b window output : List ℕ) (R : Reached b window output s r w out)
+      → OneMore R left left' held held t r' w'' out'
+  reached_read {w'' = w''} {left} {left'} held k F on b window output R =
+      subst (λ (x : Stream). OneMore R left left' held held x r' w'' out') (sym F.stream)
       (record {
         reached = record {
           input = R.input ++ piece u F.count w'';
-          over = eqb F.count 0;
+          over = nat_eq F.count 0;
           written = R.written;
           run = reads F.count w'' R.run on A k F.given;
         };
         more = refl;
+        read = piece u F.count w'';
+        input = refl;
+        consumed = F.consumed;
+        put = [];
+        written = sym (append-nil R.written);
+        appended = appends_none held;
       })
 
-  pub reached_write : {p : Progress} → u.place.waits ≡ false → Handed u p → p.failed ≡ false → s.place.ended ≡ false
-      → (b window output : List ℕ) (R : Reached b window output s r w out) → OneMore R p.stream r' w' out'
-  reached_write {p} k W f on b window output R =
-      subst (λ (x : Stream). OneMore R x r' w' out') (sym (made u p W.written W.progress f))
+  pub reached_write : {p : Progress} (left : Option (List ℕ)) {held held' : Option (List ℕ)} → u.place.waits ≡ false
+      → Handed held held' (unwritten u out') u p → p.failed ≡ false → s.place.ended ≡ false → (b window output : List ℕ)
+      (R : Reached b window output s r w out) → OneMore R left left held held' p.stream r' w' out'
+  reached_write {p} left {held} {held'} k W f on b window output R =
+      let h = written u p W.written W.progress f in
+      subst (λ (x : Stream). OneMore R left left held held' x r' w' out') (sym (made u p W.written W.progress h))
       (record {
         reached = record { input = R.input; over = R.over; written = R.written ++ unwritten u out'; run = writes R.run on A k };
         more = refl;
+        read = [];
+        input = sym (append-nil R.input);
+        consumed = consumes_none left;
+        put = unwritten u out';
+        written = refl;
+        appended = W.appended h;
       })
 
 -- ---- the loop: the turns taken, and those that are left of the count
 
-pub record Going (b window output : List ℕ) (s : Stream) (r w out : List ℕ) (left : ℕ) : Type 0 where
+pub record Going (b window output : List ℕ) (left left' held held' : Option (List ℕ)) (s : Stream) (r w out : List ℕ) (rest : ℕ) : Type 0 where
   pub reached : Reached b window output s r w out
-  pub count : turns reached.run + left ≡ 18446744073709551615
+  pub count : turns reached.run + rest ≡ 18446744073709551615
+  pub consumed : Consumes left left' reached.input
+  pub appended : Appends held held' reached.written
 
-pub going_start : (b w out : List ℕ) (s : Stream) → s ≡ start → Going b w out s b w out 18446744073709551615
-going_start b w out s e =
-    subst (λ (x : Stream). Going b w out x b w out 18446744073709551615) (sym e)
-    (record { reached = record { input = []; over = false; written = []; run = begins }; count = omega arith })
+pub going_start : (b w out : List ℕ) (left held : Option (List ℕ)) (s : Stream) → s ≡ start
+    → Going b w out left left held held s b w out 18446744073709551615
+going_start b w out left held s e =
+    subst (λ (x : Stream). Going b w out left left held held x b w out 18446744073709551615) (sym e)
+    (record {
+      reached = record { input = []; over = false; written = []; run = begins };
+      count = omega arith;
+      consumed = consumes_none left;
+      appended = appends_none held;
+    })
 
-module _ {b window output : List ℕ} {s : Stream} {r w out : List ℕ} {left : ℕ} (G : Going b window output s r w out left) where
+module _ {b window output : List ℕ} {left left' held held' : Option (List ℕ)} {s : Stream} {r w out : List ℕ} {rest : ℕ}
+    (G : Going b window output left left' held held' s r w out rest) where
   pub going_ready : 152 ≤ length output → Ready s (length w) (length out)
   going_ready h = (holds (omega arith) G.reached.run).ready
 
-  pub going_more : {t : Stream} {r' w' out' : List ℕ} → 0 < left → OneMore G.reached t r' w' out' → Going b window output t r' w' out' (left - 1)
-  going_more h M = record { reached = M.reached; count = omega (arith, M.more, G.count) }
+  pub going_more : {left'' held'' : Option (List ℕ)} {t : Stream} {r' w' out' : List ℕ} → 0 < rest
+      → OneMore G.reached left' left'' held' held'' t r' w' out' → Going b window output left left'' held held'' t r' w' out' (rest - 1)
+  going_more {left''} {held''} h M = record {
+    reached = M.reached;
+    count = omega (arith, M.more, G.count);
+    consumed = subst (Consumes left left'') (sym M.input) (consumes_more left left' left'' _ _ G.consumed M.consumed);
+    appended = subst (Appends held held'') (sym M.written) (appends_more held held' held'' _ _ G.appended M.appended);
+  }
 
-  pub finished_ended : s.place.ended ≡ true → Finished b window output s r w out
-  finished_ended e = record { reached = G.reached; ended = inl e }
+  pub finished_ended : s.place.ended ≡ true → Finished b window output left left' held held' s r w out
+  finished_ended e = record { reached = G.reached; ended = inl e; consumed = G.consumed; appended = G.appended }
 
-  pub finished_count : 65535 ≤ length window → 152 ≤ length output → left ≤ 0 → Finished b window output s r w out
+  pub finished_count : 65535 ≤ length window → 152 ≤ length output → rest ≤ 0 → Finished b window output left left' held held' s r w out
   finished_count large wide h = record {
     reached = G.reached;
     ended = inr (omega (arith, G.count, (run_right large wide G.reached.run).moves));
+    consumed = G.consumed;
+    appended = G.appended;
   }
 
 -- what the test of the loop says

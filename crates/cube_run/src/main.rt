@@ -2,13 +2,13 @@
 // write is log_stream's; here are the buffers and the calls that read and write.
 #![tactic(auto)]
 
-ghost use Rattle.std.specs.Prelude.{◌≡◌, not, ◌&&◌, ◌+◌, ◌<◌, ◌≤◌, ◌^◌, length};
-ghost use Rattle.io.specs.Counts.{clamp_len};
-ghost use Rattle.log_stream.specs.Streams.{took, Ready};
-ghost use Rattle.cube_run.specs.Turns.{Fed, after_write, Handed, Turned, Printed};
+ghost use Rattle.std.specs.Prelude.{◌≡◌, not, ◌&&◌, ◌+◌, ◌<◌, ◌≤◌, ◌^◌, length, is_ok};
+ghost use Rattle.log_stream.specs.Streams.{took, unwritten, Ready};
+ghost use Rattle.cube_run.specs.Turns.{read_count, Fed, after_write, Handed, Turned, Printed};
 
-use libc::{STDIN_FILENO, STDOUT_FILENO};
 use log_stream::Stream;
+use std::io;
+use std::io::{Read, Write};
 
 // The record; a window on the input, where a frame has at most 65,535 bytes; and the output, lines to be written at once.
 const RECORD: usize = record::SIZE;
@@ -26,32 +26,35 @@ struct Progress {
 
 // What a read into a part of the window answered: how many bytes it put there. A read that fails is told on standard error, and counts as the
 // input's end.
-fn after_read(got: isize, part: &[u8], s: Stream) -> Stream
+fn after_read(rt: &impl Eprint, got: io::Result<usize>, part: &[u8], s: Stream) -> Stream
     requires { s.filled + length part.now < 2 ^ 64 }
-    ensures { result ≡ took s (clamp_len got (length part.now)) }
+    ensures { result ≡ took s (read_count got (length part.now)) }
 {
-    if got < 0 {
-        os::fail(b"read");
+    match got {
+        Ok(n) => s.took(n.min(part.len())),
+        Err(e) => {
+            let _ = eprintln!(rt; "read: {e}");
+            s.took(0)
+        }
     }
-    s.took(io::count(got, part))
 }
 
 // One read into the part of the window that has no input yet.
-fn read_more(window: &mut [u8], s: Stream) -> Stream
+fn read_more<I: Read>(rt: &impl Eprint, input: &mut I, window: &mut [u8], s: Stream) -> Stream
     requires { s.filled ≤ length window.old }
-    ensures { Fed s window.old result window.new }
+    ensures { Fed (I.remaining input.old) (I.remaining input.new) s window.old result window.new }
 {
     let from = s.filled;
-    let got = libc::read(STDIN_FILENO, &mut window[from..]);
-    after_read(got, &window[from..], s)
+    let got = input.read(&mut window[from..]);
+    after_read(rt, got, &window[from..], s)
 }
 
 // Whether a write was made. One that fails is told on standard error, and nothing more is written.
-fn after_write(written: bool, s: Stream) -> Progress
-    ensures { result ≡ after_write written s }
+fn after_write(rt: &impl Eprint, written: io::Result<()>, s: Stream) -> Progress
+    ensures { result ≡ after_write (is_ok written) s }
 {
-    if !written {
-        os::fail(b"write");
+    if let Err(e) = written {
+        let _ = eprintln!(rt; "write: {e}");
         return Progress {
             stream: s,
             failed: true,
@@ -64,28 +67,37 @@ fn after_write(written: bool, s: Stream) -> Progress
 }
 
 // One write of all that is to be written.
-fn write_out(out: &[u8], s: Stream) -> Progress
+fn write_out<O: Write>(rt: &impl Eprint, output: &mut O, out: &[u8], s: Stream) -> Progress
     requires { s.place.put ≤ length out.now }
-    ensures { Handed s result }
+    ensures { Handed (O.contents output.old) (O.contents output.new) (unwritten s out.now) s result }
 {
-    let written = io::write_all(STDOUT_FILENO, log_stream::to_write(out, s));
-    after_write(written, s)
+    let written = output.write_all(log_stream::to_write(out, s));
+    after_write(rt, written, s)
 }
 
 // One turn, and then the read or the write that is due.
-fn turn(rec: &mut [u8], window: &mut [u8], out: &mut [u8], s: Stream) -> Progress
+fn turn<I: Read, O: Write>(
+    rt: &impl Eprint,
+    input: &mut I,
+    output: &mut O,
+    rec: &mut [u8],
+    window: &mut [u8],
+    out: &mut [u8],
+    s: Stream,
+) -> Progress
     requires { Ready s (length window.old) (length out.old) }
-    ensures { Turned s rec.old window.old out.old result rec.new window.new out.new }
+    ensures { Turned (I.remaining input.old) (I.remaining input.new) (O.contents output.old) (O.contents output.new)
+        s rec.old window.old out.old result rec.new window.new out.new }
 {
     let t = log_stream::advance(rec, window, out, s);
     let place = t.place;
     if place.waits {
         return Progress {
-            stream: read_more(window, t),
+            stream: read_more(rt, input, window, t),
             failed: false,
         };
     }
-    write_out(out, t)
+    write_out(rt, output, out, t)
 }
 
 fn goes_on(t: Progress) -> bool
@@ -98,9 +110,17 @@ fn goes_on(t: Progress) -> bool
 
 // Until the log has ended and is written, or a write has failed. Each turn but one reads or writes something, so a log of 2^64 turns would take
 // longer than anyone can wait.
-fn print_log(rec: &mut [u8], window: &mut [u8], out: &mut [u8]) -> Progress
+fn print_log<I: Read, O: Write>(
+    rt: &impl Eprint,
+    input: &mut I,
+    output: &mut O,
+    rec: &mut [u8],
+    window: &mut [u8],
+    out: &mut [u8],
+) -> Progress
     requires { (65535 ≤ length window.old) × (152 ≤ length out.old) }
-    ensures { Printed rec.old window.old out.old result rec.new window.new out.new }
+    ensures { Printed (I.remaining input.old) (I.remaining input.new) (O.contents output.old) (O.contents output.new)
+        rec.old window.old out.old result rec.new window.new out.new }
 {
     let mut t = Progress {
         stream: Stream::start(),
@@ -109,15 +129,24 @@ fn print_log(rec: &mut [u8], window: &mut [u8], out: &mut [u8]) -> Progress
     let mut turns = u64::MAX;
     while turns > 0 && goes_on(t) {
         let s = t.stream;
-        t = turn(rec, window, out, s);
+        t = turn(rt, input, output, rec, window, out, s);
         turns -= 1;
     }
     t
 }
 
-fn main() {
+fn main(rt: HostRuntime) {
+    let mut input = rt.stdin();
+    let mut output = rt.stdout();
     let mut rec = [0u8; RECORD];
     let mut window = [0u8; WINDOW];
     let mut out = [0u8; OUTPUT];
-    print_log(&mut rec, &mut window, &mut out);
+    print_log(
+        &rt,
+        &mut input,
+        &mut output,
+        &mut rec,
+        &mut window,
+        &mut out,
+    );
 }

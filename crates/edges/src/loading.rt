@@ -3,19 +3,20 @@ ghost use Rattle.std.specs.Prelude.{◌<◌};
 
 use super::printed;
 use printed::{all_good, hold, load};
+use std::io;
 
 // A buffer as set-up leaves it; before, it is no record.
-fn fresh(name: &[u8], n: u32) {
+fn fresh(rt: &impl Print, name: &[u8], n: u32) -> io::Result<()> {
     let mut rec = printed::buffer();
-    load(b"no set-up, load", &rec);
+    load(rt, b"no set-up, load", &rec)?;
     cube::cube_setup(&mut rec, n);
-    load(name, &rec);
+    load(rt, name, &rec)
 }
 
-fn fresh_ones() {
-    fresh(b"n 0, fresh, load", 0);
-    fresh(b"n 3, fresh, load", 3);
-    fresh(b"n 10, fresh, load", 10);
+fn fresh_ones(rt: &impl Print) -> io::Result<()> {
+    fresh(rt, b"n 0, fresh, load", 0)?;
+    fresh(rt, b"n 3, fresh, load", 3)?;
+    fresh(rt, b"n 10, fresh, load", 10)
 }
 
 // A fresh record of n 3 with a byte behind it.
@@ -38,230 +39,269 @@ fn one_more() -> [u8; 5137] {
     long
 }
 
-fn sizes() {
+fn sizes(rt: &impl Print) -> io::Result<()> {
     let long = one_more();
-    load(b"5137 bytes, load", &long);
+    load(rt, b"5137 bytes, load", &long)?;
     let short = [0; 5135];
-    load(b"5135 bytes, load", &short);
-    load(b"no bytes, load", b"");
+    load(rt, b"5135 bytes, load", &short)?;
+    load(rt, b"no bytes, load", b"")
 }
 
 // A record with another byte at a place, loaded; afterwards it has its own again.
-fn changed(name: &[u8], rec: &mut [u8; record::SIZE], at: usize, byte: u8)
+fn changed(
+    rt: &impl Print,
+    name: &[u8],
+    rec: &mut [u8; record::SIZE],
+    at: usize,
+    byte: u8,
+) -> io::Result<()>
     requires { at < 5136 }
 {
     let kept = rec[at];
     rec[at] = byte;
-    load(name, rec);
+    load(rt, name, rec)?;
     rec[at] = kept;
+    Ok(())
 }
 
 // With two other bytes.
-fn both(name: &[u8], rec: &mut [u8; record::SIZE], at: usize, byte: u8, then: usize, other: u8)
+fn both(
+    rt: &impl Print,
+    name: &[u8],
+    rec: &mut [u8; record::SIZE],
+    at: usize,
+    byte: u8,
+    then: usize,
+    other: u8,
+) -> io::Result<()>
     requires { (at < 5136) × (then < 5136) }
 {
     let kept = rec[at];
     rec[at] = byte;
-    changed(name, rec, then, other);
+    changed(rt, name, rec, then, other)?;
     rec[at] = kept;
+    Ok(())
 }
 
 // n 3, all good: 7 holds nodes 0 to 3, 8 holds 4 and 5, 9 holds 6.
-fn held(rec: &mut [u8; record::SIZE]) {
+fn held(rt: &impl Print, rec: &mut [u8; record::SIZE]) -> io::Result<()> {
     hold(rec, 7, 2);
     hold(rec, 8, 1);
     hold(rec, 9, 0);
-    load(b"n 3, three subcubes, load", rec);
+    load(rt, b"n 3, three subcubes, load", rec)
 }
 
 // Node 3 unheld, then 8's.
-fn torn(rec: &mut [u8; record::SIZE]) {
+fn torn(rt: &impl Print, rec: &mut [u8; record::SIZE]) -> io::Result<()> {
     changed(
+        rt,
         b"causes 1 and 18, 3 unheld with star bits 3, load",
         rec,
         22,
         0,
-    );
-    both(b"7 without 3, load", rec, 22, 0, 3094, 0);
-    both(b"3 is 8's, load", rec, 22, 8, 3094, 1);
-    both(b"causes 1 and 18, condition 3, load", rec, 22, 8, 2064, 3);
-    load(b"3 is 7's, load", rec);
+    )?;
+    both(rt, b"7 without 3, load", rec, 22, 0, 3094, 0)?;
+    both(rt, b"3 is 8's, load", rec, 22, 8, 3094, 1)?;
+    both(
+        rt,
+        b"causes 1 and 18, condition 3, load",
+        rec,
+        22,
+        8,
+        2064,
+        3,
+    )?;
+    load(rt, b"3 is 7's, load", rec)
 }
 
 // Node 7, which is unheld.
-fn further(rec: &mut [u8; record::SIZE]) {
-    changed(b"9 with 7 too, load", rec, 30, 9);
+fn further(rt: &impl Print, rec: &mut [u8; record::SIZE]) -> io::Result<()> {
+    changed(rt, b"9 with 7 too, load", rec, 30, 9)?;
     both(
+        rt,
         b"9 with 7 too, star bits 1 at 6 alone, load",
         rec,
         30,
         9,
         3100,
         1,
-    );
-    changed(b"7 unheld, star bits 1 at 6, load", rec, 3100, 1);
-    changed(b"7 unheld, star bits 1 at 7, load", rec, 3102, 1);
+    )?;
+    changed(rt, b"7 unheld, star bits 1 at 6, load", rec, 3100, 1)?;
+    changed(rt, b"7 unheld, star bits 1 at 7, load", rec, 3102, 1)
 }
 
 // One node's star bits are others: of 7's first, of its third, of its last.
-fn one_node(rec: &mut [u8; record::SIZE]) {
-    changed(b"star bits 7 at 0, load", rec, 3088, 7);
-    changed(b"star bits 1 at 2, load", rec, 3092, 1);
-    changed(b"star bits 32771 at 3, load", rec, 3095, 128);
+fn one_node(rt: &impl Print, rec: &mut [u8; record::SIZE]) -> io::Result<()> {
+    changed(rt, b"star bits 7 at 0, load", rec, 3088, 7)?;
+    changed(rt, b"star bits 1 at 2, load", rec, 3092, 1)?;
+    changed(rt, b"star bits 32771 at 3, load", rec, 3095, 128)
 }
 
 // Of both nodes of 8, 4 and 5: 4 is set in the lowest, 8 is 2^n.
-fn all_nodes(rec: &mut [u8; record::SIZE]) {
-    both(b"star bits 0 at 4 and 5, load", rec, 3096, 0, 3098, 0);
-    both(b"star bits 2 at 4 and 5, load", rec, 3096, 2, 3098, 2);
-    both(b"star bits 3 at 4 and 5, load", rec, 3096, 3, 3098, 3);
-    both(b"star bits 5 at 4 and 5, load", rec, 3096, 5, 3098, 5);
-    both(b"star bits 9 at 4 and 5, load", rec, 3096, 9, 3098, 9);
+fn all_nodes(rt: &impl Print, rec: &mut [u8; record::SIZE]) -> io::Result<()> {
+    both(rt, b"star bits 0 at 4 and 5, load", rec, 3096, 0, 3098, 0)?;
+    both(rt, b"star bits 2 at 4 and 5, load", rec, 3096, 2, 3098, 2)?;
+    both(rt, b"star bits 3 at 4 and 5, load", rec, 3096, 3, 3098, 3)?;
+    both(rt, b"star bits 5 at 4 and 5, load", rec, 3096, 5, 3098, 5)?;
+    both(rt, b"star bits 9 at 4 and 5, load", rec, 3096, 9, 3098, 9)
 }
 
 // No call made it, and it is a subcube: 9 holds 6 and 7.
-fn by_hand(rec: &mut [u8; record::SIZE]) {
+fn by_hand(rt: &impl Print, rec: &mut [u8; record::SIZE]) -> io::Result<()> {
     rec[30] = 9;
     rec[3100] = 1;
     rec[3102] = 1;
-    load(b"9 with 7 too, star bits 1 at both, load", rec);
-    changed(b"7 is 10's, load", rec, 30, 10);
+    load(rt, b"9 with 7 too, star bits 1 at both, load", rec)?;
+    changed(rt, b"7 is 10's, load", rec, 30, 10)
 }
 
 // 18 is no cause of a call, and the loading call writes nothing: 7 holds node 7 too.
-fn served(rec: &mut [u8; record::SIZE]) {
+fn served(rt: &impl Print, rec: &mut [u8; record::SIZE]) -> io::Result<()> {
     rec[30] = 7;
-    load(b"7 with 7 too, load", rec);
-    super::star_bits::print_nodes(rec);
-    printed::grow(b"no subcube, growth of k 2 by 7", rec, 7, 2, 0);
-    printed::release(b"no subcube, release by 7", rec, 7);
-    load(b"7 without any, load", rec);
+    load(rt, b"7 with 7 too, load", rec)?;
+    super::star_bits::print_nodes(rt, rec)?;
+    printed::grow(rt, b"no subcube, growth of k 2 by 7", rec, 7, 2, 0)?;
+    printed::release(rt, b"no subcube, release by 7", rec, 7)?;
+    load(rt, b"7 without any, load", rec)
 }
 
 // n 2, all good.
-fn two_pairs(rec: &mut [u8; record::SIZE]) {
+fn two_pairs(rt: &impl Print, rec: &mut [u8; record::SIZE]) -> io::Result<()> {
     hold(rec, 7, 1);
     hold(rec, 8, 1);
-    load(b"n 2, two pairs, load", rec);
-    both(b"7 with both pairs, load", rec, 20, 7, 22, 7);
+    load(rt, b"n 2, two pairs, load", rec)?;
+    both(rt, b"7 with both pairs, load", rec, 20, 7, 22, 7)
 }
 
-fn four_jobs(rec: &mut [u8; record::SIZE]) {
+fn four_jobs(rt: &impl Print, rec: &mut [u8; record::SIZE]) -> io::Result<()> {
     hold(rec, 1, 0);
     hold(rec, 257, 0);
     hold(rec, 256, 0);
     hold(rec, 65535, 0);
-    load(b"n 2, jobs 1, 257, 256, 65535, load", rec);
+    load(rt, b"n 2, jobs 1, 257, 256, 65535, load", rec)
 }
 
 // Jobs that have a byte in common are two, and a job's two nodes are no subcube of one.
-fn job_numbers(rec: &mut [u8; record::SIZE]) {
-    changed(b"jobs 1, 257, 257, 65535, load", rec, 20, 1);
-    both(b"jobs 65535, 257, 256, 65535, load", rec, 16, 255, 17, 255);
-    changed(b"jobs 1, 257, 256, 65534, load", rec, 22, 254);
+fn job_numbers(rt: &impl Print, rec: &mut [u8; record::SIZE]) -> io::Result<()> {
+    changed(rt, b"jobs 1, 257, 257, 65535, load", rec, 20, 1)?;
+    both(
+        rt,
+        b"jobs 65535, 257, 256, 65535, load",
+        rec,
+        16,
+        255,
+        17,
+        255,
+    )?;
+    changed(rt, b"jobs 1, 257, 256, 65534, load", rec, 22, 254)
 }
 
-fn no_direction(rec: &mut [u8; record::SIZE]) {
+fn no_direction(rt: &impl Print, rec: &mut [u8; record::SIZE]) -> io::Result<()> {
     hold(rec, 65535, 0);
-    load(b"n 0, node 0 held, load", rec);
-    changed(b"n 0, star bits 1, load", rec, 3088, 1);
+    load(rt, b"n 0, node 0 held, load", rec)?;
+    changed(rt, b"n 0, star bits 1, load", rec, 3088, 1)
 }
 
 // n 1: node 1 alone is good.
-fn one_direction(rec: &mut [u8; record::SIZE]) {
+fn one_direction(rt: &impl Print, rec: &mut [u8; record::SIZE]) -> io::Result<()> {
     printed::make_good(rec, 1);
     hold(rec, 7, 0);
-    load(b"n 1, node 1 held, load", rec);
-    changed(b"n 1, star bits 1 at 1, load", rec, 3090, 1);
+    load(rt, b"n 1, node 1 held, load", rec)?;
+    changed(rt, b"n 1, star bits 1 at 1, load", rec, 3090, 1)
 }
 
 // n 10: one job holds all nodes; the first and the last are changed.
-fn whole_cube(rec: &mut [u8; record::SIZE]) {
+fn whole_cube(rt: &impl Print, rec: &mut [u8; record::SIZE]) -> io::Result<()> {
     hold(rec, 65535, 10);
-    load(b"n 10, all nodes held, load", rec);
-    changed(b"star bits 1022 at 1023, load", rec, 5134, 254);
-    changed(b"star bits 511 at 0, load", rec, 3089, 1);
-    changed(b"1023 is 65534's, load", rec, 2062, 254);
+    load(rt, b"n 10, all nodes held, load", rec)?;
+    changed(rt, b"star bits 1022 at 1023, load", rec, 5134, 254)?;
+    changed(rt, b"star bits 511 at 0, load", rec, 3089, 1)?;
+    changed(rt, b"1023 is 65534's, load", rec, 2062, 254)
 }
 
 // n 10: node 1023 alone is held, then node 0 too. 1024 is 2^n, 512 is set in 1023, and with 512 node 0 is half of a pair.
-fn last_node(rec: &mut [u8; record::SIZE]) {
+fn last_node(rt: &impl Print, rec: &mut [u8; record::SIZE]) -> io::Result<()> {
     printed::make_good(rec, 1023);
     hold(rec, 7, 0);
-    load(b"1023 alone held, load", rec);
-    changed(b"star bits 1024 at 1023, load", rec, 5135, 4);
-    changed(b"star bits 512 at 1023, load", rec, 5135, 2);
-    both(b"star bits 512 at 0, load", rec, 16, 8, 3089, 2);
+    load(rt, b"1023 alone held, load", rec)?;
+    changed(rt, b"star bits 1024 at 1023, load", rec, 5135, 4)?;
+    changed(rt, b"star bits 512 at 1023, load", rec, 5135, 2)?;
+    both(rt, b"star bits 512 at 0, load", rec, 16, 8, 3089, 2)
 }
 
 // What calls leave loads: n 3, all good.
-fn after_calls(rec: &mut [u8; record::SIZE]) {
-    printed::request(b"n 3, request of k 1 by 7", rec, 7, 1, 0);
-    load(b"a request, load", rec);
-    printed::grow(b"growth of k 2 by 7", rec, 7, 2, 0);
-    load(b"a growth, load", rec);
-    printed::fault(b"fault 1, held by 7", rec, 1);
-    load(b"a held node faulty, load", rec);
-    printed::release(b"release by 7", rec, 7);
-    load(b"a release, load", rec);
+fn after_calls(rt: &impl Print, rec: &mut [u8; record::SIZE]) -> io::Result<()> {
+    printed::request(rt, b"n 3, request of k 1 by 7", rec, 7, 1, 0)?;
+    load(rt, b"a request, load", rec)?;
+    printed::grow(rt, b"growth of k 2 by 7", rec, 7, 2, 0)?;
+    load(rt, b"a growth, load", rec)?;
+    printed::fault(rt, b"fault 1, held by 7", rec, 1)?;
+    load(rt, b"a held node faulty, load", rec)?;
+    printed::release(rt, b"release by 7", rec, 7)?;
+    load(rt, b"a release, load", rec)
 }
 
 // Nodes 1 and 5 are faulty, so direction 3 becomes the first.
-fn after_relabel(rec: &mut [u8; record::SIZE]) {
-    printed::fault(b"fault 5", rec, 5);
-    printed::call(b"nodes 1 and 5 faulty, relabel", rec, b"\x04\x00\x03\x02");
-    load(b"a relabel, load", rec);
-    printed::request(b"request of k 2 by 7", rec, 7, 2, 0);
-    printed::request(b"request of k 1 by 8", rec, 8, 1, 0);
-    load(b"two requests by other labels, load", rec);
-    both(b"0 and 2 exchanged, load", rec, 16, 7, 20, 8);
+fn after_relabel(rt: &impl Print, rec: &mut [u8; record::SIZE]) -> io::Result<()> {
+    printed::fault(rt, b"fault 5", rec, 5)?;
+    printed::call(
+        rt,
+        b"nodes 1 and 5 faulty, relabel",
+        rec,
+        b"\x04\x00\x03\x02",
+    )?;
+    load(rt, b"a relabel, load", rec)?;
+    printed::request(rt, b"request of k 2 by 7", rec, 7, 2, 0)?;
+    printed::request(rt, b"request of k 1 by 8", rec, 8, 1, 0)?;
+    load(rt, b"two requests by other labels, load", rec)?;
+    both(rt, b"0 and 2 exchanged, load", rec, 16, 7, 20, 8)
 }
 
-fn three_subcubes() {
+fn three_subcubes(rt: &impl Print) -> io::Result<()> {
     let mut rec = all_good(3, 8);
-    held(&mut rec);
-    torn(&mut rec);
-    further(&mut rec);
-    one_node(&mut rec);
-    all_nodes(&mut rec);
-    by_hand(&mut rec);
+    held(rt, &mut rec)?;
+    torn(rt, &mut rec)?;
+    further(rt, &mut rec)?;
+    one_node(rt, &mut rec)?;
+    all_nodes(rt, &mut rec)?;
+    by_hand(rt, &mut rec)?;
     let mut other = all_good(3, 8);
-    held(&mut other);
-    served(&mut other);
+    held(rt, &mut other)?;
+    served(rt, &mut other)
 }
 
-fn jobs() {
+fn jobs(rt: &impl Print) -> io::Result<()> {
     let mut pairs = all_good(2, 4);
-    two_pairs(&mut pairs);
+    two_pairs(rt, &mut pairs)?;
     let mut four = all_good(2, 4);
-    four_jobs(&mut four);
-    job_numbers(&mut four);
+    four_jobs(rt, &mut four)?;
+    job_numbers(rt, &mut four)
 }
 
-fn smallest() {
+fn smallest(rt: &impl Print) -> io::Result<()> {
     let mut rec = all_good(0, 1);
-    no_direction(&mut rec);
+    no_direction(rt, &mut rec)?;
     let mut one = printed::buffer();
     cube::cube_setup(&mut one, 1);
-    one_direction(&mut one);
+    one_direction(rt, &mut one)
 }
 
-fn largest() {
+fn largest(rt: &impl Print) -> io::Result<()> {
     let mut rec = all_good(10, 1024);
-    whole_cube(&mut rec);
+    whole_cube(rt, &mut rec)?;
     let mut silent = printed::buffer();
     cube::cube_setup(&mut silent, 10);
-    last_node(&mut silent);
+    last_node(rt, &mut silent)
 }
 
-pub(crate) fn loads() {
-    fresh_ones();
-    sizes();
-    three_subcubes();
-    jobs();
-    smallest();
-    largest();
+pub(crate) fn loads(rt: &impl Print) -> io::Result<()> {
+    fresh_ones(rt)?;
+    sizes(rt)?;
+    three_subcubes(rt)?;
+    jobs(rt)?;
+    smallest(rt)?;
+    largest(rt)?;
     let mut rec = all_good(3, 8);
-    after_calls(&mut rec);
-    after_relabel(&mut rec);
+    after_calls(rt, &mut rec)?;
+    after_relabel(rt, &mut rec)
 }

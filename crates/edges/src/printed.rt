@@ -1,5 +1,5 @@
 // Calls whose answers are printed: the number returned and the six words of the reply buffer, which held 61166 in each before the call.
-use libc::STDOUT_FILENO;
+use std::io;
 
 // A record's size of bytes 170, which set-up does not mind.
 pub(crate) fn buffer() -> [u8; record::SIZE] {
@@ -10,58 +10,64 @@ fn word(low: u8, high: u8) -> u64 {
     low as u64 + 256 * (high as u64)
 }
 
-pub(crate) fn print_word(low: u8, high: u8) {
-    io::write_all(STDOUT_FILENO, b" ");
-    io::print_decimal(STDOUT_FILENO, word(low, high));
+pub(crate) fn print_word(rt: &impl Print, low: u8, high: u8) -> io::Result<()> {
+    rt.write_all(b" ")?;
+    rt.print(word(low, high))
 }
 
-fn print_number(name: &[u8], number: u32) {
-    io::write_all(STDOUT_FILENO, name);
-    io::write_all(STDOUT_FILENO, b": ");
-    io::print_decimal(STDOUT_FILENO, number as u64);
+fn print_number(rt: &impl Print, name: &[u8], number: u32) -> io::Result<()> {
+    rt.write_all(name)?;
+    rt.write_all(b": ")?;
+    rt.print(number)
 }
 
-pub(crate) fn set_up(name: &[u8], rec: &mut [u8], n: u32) {
-    print_number(name, cube::cube_setup(rec, n));
-    io::write_all(STDOUT_FILENO, b"\n");
+pub(crate) fn set_up(rt: &impl Print, name: &[u8], rec: &mut [u8], n: u32) -> io::Result<()> {
+    print_number(rt, name, cube::cube_setup(rec, n))?;
+    rt.write_all(b"\n")
 }
 
-pub(crate) fn load(name: &[u8], rec: &[u8]) {
-    print_number(name, cube::cube_load(rec));
-    io::write_all(STDOUT_FILENO, b"\n");
+pub(crate) fn load(rt: &impl Print, name: &[u8], rec: &[u8]) -> io::Result<()> {
+    print_number(rt, name, cube::cube_load(rec))?;
+    rt.write_all(b"\n")
 }
 
-fn print_reply(name: &[u8], number: u32, r: [u8; 12]) {
-    print_number(name, number);
-    io::write_all(STDOUT_FILENO, b",");
-    print_word(r[0], r[1]);
-    print_word(r[2], r[3]);
-    print_word(r[4], r[5]);
-    print_word(r[6], r[7]);
-    print_word(r[8], r[9]);
-    print_word(r[10], r[11]);
-    io::write_all(STDOUT_FILENO, b"\n");
+fn print_reply(rt: &impl Print, name: &[u8], number: u32, r: [u8; 12]) -> io::Result<()> {
+    print_number(rt, name, number)?;
+    rt.write_all(b",")?;
+    print_word(rt, r[0], r[1])?;
+    print_word(rt, r[2], r[3])?;
+    print_word(rt, r[4], r[5])?;
+    print_word(rt, r[6], r[7])?;
+    print_word(rt, r[8], r[9])?;
+    print_word(rt, r[10], r[11])?;
+    rt.write_all(b"\n")
 }
 
 // One frame with a reply buffer of 12 bytes.
-pub(crate) fn call(name: &[u8], rec: &mut [u8], frame: &[u8]) {
+pub(crate) fn call(rt: &impl Print, name: &[u8], rec: &mut [u8], frame: &[u8]) -> io::Result<()> {
     let mut reply = [238; 12];
     let number = cube::cube_call(rec, frame, &mut reply);
-    print_reply(name, number, reply);
+    print_reply(rt, name, number, reply)
 }
 
 // One frame with a reply buffer of 11 bytes.
-pub(crate) fn call_short(name: &[u8], rec: &mut [u8], frame: &[u8]) {
+pub(crate) fn call_short(
+    rt: &impl Print,
+    name: &[u8],
+    rec: &mut [u8],
+    frame: &[u8],
+) -> io::Result<()> {
     let mut reply = [238; 11];
     let number = cube::cube_call(rec, frame, &mut reply);
     print_reply(
+        rt,
         name,
         number,
         [
             reply[0], reply[1], reply[2], reply[3], reply[4], reply[5], reply[6], reply[7],
             reply[8], reply[9], reply[10], 238,
         ],
-    );
+    )
 }
 
 // A frame of six bytes: its kind, low byte first, and one field.
@@ -83,20 +89,44 @@ fn eight(low: u8, job: u16, k: u8, strategy: u8) -> [u8; 8] {
     ]
 }
 
-pub(crate) fn request(name: &[u8], rec: &mut [u8; record::SIZE], job: u16, k: u8, strategy: u8) {
-    call(name, rec, &eight(1, job, k, strategy));
+pub(crate) fn request(
+    rt: &impl Print,
+    name: &[u8],
+    rec: &mut [u8; record::SIZE],
+    job: u16,
+    k: u8,
+    strategy: u8,
+) -> io::Result<()> {
+    call(rt, name, rec, &eight(1, job, k, strategy))
 }
 
-pub(crate) fn grow(name: &[u8], rec: &mut [u8; record::SIZE], job: u16, k: u8, strategy: u8) {
-    call(name, rec, &eight(4, job, k, strategy));
+pub(crate) fn grow(
+    rt: &impl Print,
+    name: &[u8],
+    rec: &mut [u8; record::SIZE],
+    job: u16,
+    k: u8,
+    strategy: u8,
+) -> io::Result<()> {
+    call(rt, name, rec, &eight(4, job, k, strategy))
 }
 
-pub(crate) fn release(name: &[u8], rec: &mut [u8; record::SIZE], job: u16) {
-    call(name, rec, &six(2, 2, job));
+pub(crate) fn release(
+    rt: &impl Print,
+    name: &[u8],
+    rec: &mut [u8; record::SIZE],
+    job: u16,
+) -> io::Result<()> {
+    call(rt, name, rec, &six(2, 2, job))
 }
 
-pub(crate) fn fault(name: &[u8], rec: &mut [u8; record::SIZE], x: u16) {
-    call(name, rec, &six(2, 1, x));
+pub(crate) fn fault(
+    rt: &impl Print,
+    name: &[u8],
+    rec: &mut [u8; record::SIZE],
+    x: u16,
+) -> io::Result<()> {
+    call(rt, name, rec, &six(2, 1, x))
 }
 
 // 'good' of a node, with nothing printed.

@@ -1,96 +1,98 @@
 // Records that refusal 1 meets since document 02, (f): star bits at an unheld node, other heads, other sizes. At a held node any star bits pass.
 // Each is tried by 'good' of node 0.
 use super::printed;
+use std::io;
 
-fn good(name: &[u8], rec: &mut [u8]) {
-    printed::call(name, rec, b"\x06\x00\x01\x01\x00\x00");
+fn good(rt: &impl Print, name: &[u8], rec: &mut [u8]) -> io::Result<()> {
+    printed::call(rt, name, rec, b"\x06\x00\x01\x01\x00\x00")
 }
 
 // n 3: the first node and the last.
-fn unheld(rec: &mut [u8; record::SIZE]) {
+fn unheld(rt: &impl Print, rec: &mut [u8; record::SIZE]) -> io::Result<()> {
     rec[3088] = 1;
-    good(b"n 3, node 0 unheld with star bits 1", rec);
+    good(rt, b"n 3, node 0 unheld with star bits 1", rec)?;
     rec[3088] = 0;
     rec[3089] = 128;
-    good(b"node 0 unheld with star bits 32768", rec);
+    good(rt, b"node 0 unheld with star bits 32768", rec)?;
     rec[3089] = 0;
     rec[3102] = 1;
-    good(b"node 7 unheld with star bits 1", rec);
+    good(rt, b"node 7 unheld with star bits 1", rec)?;
     rec[3102] = 0;
     rec[3103] = 1;
-    good(b"node 7 unheld with star bits 256", rec);
+    good(rt, b"node 7 unheld with star bits 256", rec)?;
     rec[3103] = 0;
+    Ok(())
 }
 
 // n 3: 2^n and the last of the record.
-fn beyond(rec: &mut [u8; record::SIZE]) {
+fn beyond(rt: &impl Print, rec: &mut [u8; record::SIZE]) -> io::Result<()> {
     rec[3104] = 1;
-    good(b"node 8 with star bits 1", rec);
+    good(rt, b"node 8 with star bits 1", rec)?;
     rec[3104] = 0;
     rec[3105] = 1;
-    good(b"node 8 with star bits 256", rec);
+    good(rt, b"node 8 with star bits 256", rec)?;
     rec[3105] = 0;
     rec[5134] = 255;
-    good(b"node 1023 with star bits 255", rec);
+    good(rt, b"node 1023 with star bits 255", rec)?;
     rec[5134] = 0;
     rec[5135] = 1;
-    good(b"node 1023 with star bits 256", rec);
+    good(rt, b"node 1023 with star bits 256", rec)?;
     rec[5135] = 0;
-    good(b"no node with star bits", rec);
+    good(rt, b"no node with star bits", rec)
 }
 
 // Jobs 7, 256 and 65535; job 256 has a low byte of 0.
-fn held(rec: &mut [u8; record::SIZE]) {
+fn held(rt: &impl Print, rec: &mut [u8; record::SIZE]) -> io::Result<()> {
     rec[16] = 7;
     rec[3088] = 255;
     rec[3089] = 255;
-    good(b"node 0 held with star bits 65535", rec);
+    good(rt, b"node 0 held with star bits 65535", rec)?;
     rec[16] = 0;
-    good(b"node 0 unheld with star bits 65535", rec);
+    good(rt, b"node 0 unheld with star bits 65535", rec)?;
     rec[17] = 1;
-    good(b"node 0 held by 256 with star bits 65535", rec);
+    good(rt, b"node 0 held by 256 with star bits 65535", rec)?;
     rec[30] = 255;
     rec[31] = 255;
     rec[3103] = 1;
-    good(b"node 7 held too, with star bits 256", rec);
+    good(rt, b"node 7 held too, with star bits 256", rec)?;
     rec[3090] = 1;
-    good(b"node 1 unheld with star bits 1", rec);
+    good(rt, b"node 1 unheld with star bits 1", rec)?;
     rec[3090] = 0;
-    good(b"node 1 unheld with star bits 0", rec);
+    good(rt, b"node 1 unheld with star bits 0", rec)
 }
 
 // A record's length and kind are 5136 and 0x0002.
-fn heads(rec: &mut [u8; record::SIZE]) {
+fn heads(rt: &impl Print, rec: &mut [u8; record::SIZE]) -> io::Result<()> {
     rec[2] = 1;
-    good(b"kind 0x0001", rec);
+    good(rt, b"kind 0x0001", rec)?;
     rec[1] = 12;
-    good(b"kind 0x0001, length 3088", rec);
+    good(rt, b"kind 0x0001, length 3088", rec)?;
     rec[2] = 2;
-    good(b"kind 0x0002, length 3088", rec);
+    good(rt, b"kind 0x0002, length 3088", rec)?;
     rec[1] = 20;
     rec[3] = 1;
-    good(b"kind 0x0102", rec);
+    good(rt, b"kind 0x0102", rec)?;
     rec[3] = 0;
-    good(b"kind 0x0002", rec);
+    good(rt, b"kind 0x0002", rec)
 }
 
 // n 10: node 1023 is below 2^n.
-fn largest(rec: &mut [u8; record::SIZE]) {
+fn largest(rt: &impl Print, rec: &mut [u8; record::SIZE]) -> io::Result<()> {
     rec[5135] = 2;
-    good(b"n 10, node 1023 unheld with star bits 512", rec);
+    good(rt, b"n 10, node 1023 unheld with star bits 512", rec)?;
     rec[2062] = 7;
-    good(b"n 10, node 1023 held with star bits 512", rec);
+    good(rt, b"n 10, node 1023 held with star bits 512", rec)
 }
 
 // n 0: node 1 is not below 2^n.
-fn smallest(rec: &mut [u8; record::SIZE]) {
+fn smallest(rt: &impl Print, rec: &mut [u8; record::SIZE]) -> io::Result<()> {
     rec[3090] = 1;
-    good(b"n 0, node 1 with star bits 1", rec);
+    good(rt, b"n 0, node 1 with star bits 1", rec)?;
     rec[3090] = 0;
     rec[3088] = 1;
-    good(b"n 0, node 0 unheld with star bits 1", rec);
+    good(rt, b"n 0, node 0 unheld with star bits 1", rec)?;
     rec[16] = 7;
-    good(b"n 0, node 0 held with star bits 1", rec);
+    good(rt, b"n 0, node 0 held with star bits 1", rec)
 }
 
 // A fresh record without star bits, as it was before document 02, (f): n is 3.
@@ -114,28 +116,28 @@ fn without_stars() -> [u8; 3088] {
 }
 
 // The length field says this size, then that of a record.
-fn sizes() {
+fn sizes(rt: &impl Print) -> io::Result<()> {
     let mut old = without_stars();
-    good(b"3088 bytes, kind 0x0001", &mut old);
+    good(rt, b"3088 bytes, kind 0x0001", &mut old)?;
     old[1] = 20;
     old[2] = 2;
-    good(b"3088 bytes, kind 0x0002", &mut old);
-    printed::set_up(b"set-up of 3088 bytes", &mut old, 3);
-    printed::set_up(b"set-up of 3088 bytes and n 11", &mut old, 11);
+    good(rt, b"3088 bytes, kind 0x0002", &mut old)?;
+    printed::set_up(rt, b"set-up of 3088 bytes", &mut old, 3)?;
+    printed::set_up(rt, b"set-up of 3088 bytes and n 11", &mut old, 11)
 }
 
-pub(crate) fn star_records() {
+pub(crate) fn star_records(rt: &impl Print) -> io::Result<()> {
     let mut rec = printed::buffer();
     cube::cube_setup(&mut rec, 3);
-    unheld(&mut rec);
-    beyond(&mut rec);
-    held(&mut rec);
-    heads(&mut rec);
+    unheld(rt, &mut rec)?;
+    beyond(rt, &mut rec)?;
+    held(rt, &mut rec)?;
+    heads(rt, &mut rec)?;
     let mut large = printed::buffer();
     cube::cube_setup(&mut large, 10);
-    largest(&mut large);
+    largest(rt, &mut large)?;
     let mut small = printed::buffer();
     cube::cube_setup(&mut small, 0);
-    smallest(&mut small);
-    sizes();
+    smallest(rt, &mut small)?;
+    sizes(rt)
 }

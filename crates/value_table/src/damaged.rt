@@ -3,6 +3,7 @@
 use super::{pair, print};
 use hypercube::Node;
 use state::{Call, State};
+use std::io;
 
 fn changed(change: u32) -> State {
     let mut s = State::fresh(3);
@@ -27,51 +28,44 @@ fn changed(change: u32) -> State {
     s
 }
 
-fn reports(before: State, rec: &mut [u8]) -> State {
-    let s = pair::called(0, before, rec, Call::Good(Node(0)));
-    let s = pair::called(1, s, rec, Call::Fault(Node(0)));
-    pair::called(2, s, rec, Call::Repaired(Node(0)))
+fn reports(rt: &impl Print, before: State, rec: &mut [u8]) -> io::Result<State> {
+    let s = pair::called(rt, 0, before, rec, Call::Good(Node(0)))?;
+    let s = pair::called(rt, 1, s, rec, Call::Fault(Node(0)))?;
+    pair::called(rt, 2, s, rec, Call::Repaired(Node(0)))
 }
 
-fn others(before: State, rec: &mut [u8]) {
-    let s = pair::called(3, before, rec, Call::Relabel);
+fn others(rt: &impl Print, before: State, rec: &mut [u8]) -> io::Result<()> {
+    let s = pair::called(rt, 3, before, rec, Call::Relabel)?;
     let request = Call::Request {
         job: 1,
         k: 0,
         strategy: 0,
     };
-    let s = pair::called(4, s, rec, request);
+    let s = pair::called(rt, 4, s, rec, request)?;
     let growth = Call::Grow {
         job: 65535,
         k: 1,
         strategy: 0,
     };
-    let s = pair::called(5, s, rec, growth);
-    pair::called(6, s, rec, Call::Release(65535));
+    let s = pair::called(rt, 5, s, rec, growth)?;
+    pair::called(rt, 6, s, rec, Call::Release(65535))?;
+    Ok(())
 }
 
-fn state(change: u32) {
+fn state(rt: &impl Print, change: u32) -> io::Result<()> {
     let s = changed(change);
     let mut rec = [0; record::SIZE];
     record::store(s, &mut rec);
-    print::text(b"damaged");
-    print::next(change);
-    pair::show_sums(s, &rec);
-    others(reports(s, &mut rec), &mut rec);
+    print::text(rt, b"damaged")?;
+    print::next(rt, change)?;
+    pair::show_sums(rt, &s, &rec)?;
+    let s = reports(rt, s, &mut rec)?;
+    others(rt, s, &mut rec)
 }
 
-pub(crate) fn states() {
-    state(0);
-    state(1);
-    state(2);
-    state(3);
-    state(4);
-    state(5);
-    state(6);
-    state(7);
-    state(8);
-    state(9);
-    state(10);
-    state(11);
-    state(12);
+pub(crate) fn states(rt: &impl Print) -> io::Result<()> {
+    for change in 0..13u32 {
+        state(rt, change)?;
+    }
+    Ok(())
 }

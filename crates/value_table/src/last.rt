@@ -5,6 +5,7 @@ ghost use Rattle.std.specs.Prelude.{◌≤◌};
 use super::pair;
 use hypercube::Node;
 use state::{Call, State};
+use std::io;
 
 fn request(n: u16, job: u16) -> Call
     requires { n ≤ 10 }
@@ -26,31 +27,39 @@ fn growth(n: u16, k: u16) -> Call
     }
 }
 
-fn requests(n: u16, before: State, rec: &mut [u8]) -> State
+fn requests(rt: &impl Print, n: u16, before: State, rec: &mut [u8]) -> io::Result<State>
     requires { n ≤ 10 }
 {
-    let s = pair::called(40, before, rec, request(n, 1));
-    pair::called(41, s, rec, request(n, 2))
+    let s = pair::called(rt, 40, before, rec, request(n, 1))?;
+    pair::called(rt, 41, s, rec, request(n, 2))
 }
 
 // Growths to each k from `first` to the one before `end`; that to k 0 would be at `place`.
-fn growths(n: u16, first: u16, end: u16, place: u32, before: State, rec: &mut [u8]) -> State
+fn growths(
+    rt: &impl Print,
+    n: u16,
+    first: u16,
+    end: u16,
+    place: u32,
+    before: State,
+    rec: &mut [u8],
+) -> io::Result<State>
     requires { (n ≤ 10) × ((end ≤ 11) × (place ≤ 43)) }
 {
     let mut s = before;
-    let mut k = first;
-    while k < end {
-        s = pair::called(place + k as u32, s, rec, growth(n, k));
-        k += 1;
+    for k in first..end {
+        s = pair::called(rt, place + k as u32, s, rec, growth(n, k))?;
     }
-    s
+    Ok(s)
 }
 
-pub(crate) fn calls(n: u16, before: State, rec: &mut [u8])
+pub(crate) fn calls(rt: &impl Print, n: u16, before: State, rec: &mut [u8]) -> io::Result<()>
     requires { n ≤ 10 }
 {
     let half = n / 2;
-    let s = growths(n, 0, half, 42, requests(n, before, rec), rec);
-    let s = pair::called(42 + half as u32, s, rec, Call::Fault(Node(1)));
-    growths(n, half, n + 1, 43, s, rec);
+    let s = requests(rt, n, before, rec)?;
+    let s = growths(rt, n, 0, half, 42, s, rec)?;
+    let s = pair::called(rt, 42 + half as u32, s, rec, Call::Fault(Node(1)))?;
+    growths(rt, n, half, n + 1, 43, s, rec)?;
+    Ok(())
 }

@@ -12,9 +12,11 @@ mod print;
 mod session;
 mod sums;
 
-fn main() {
-    session::sessions();
-    damaged::states();
-    maps::maps();
-    positions::entries();
+use std::io;
+
+fn main(rt: HostRuntime) -> io::Result<()> {
+    session::sessions(&rt)?;
+    damaged::states(&rt)?;
+    maps::maps(&rt)?;
+    positions::entries(&rt)
 }

@@ -4,6 +4,7 @@ ghost use Rattle.labels.specs.Directions.{Directions};
 
 use super::print;
 use hypercube::{Label, Node};
+use std::io;
 
 // The place a further than x, of n places in a ring.
 fn further(n: u8, a: u8, x: u8) -> u8
@@ -20,11 +21,9 @@ fn spread(n: u8, a: u8, b: u8) -> [u8; 10]
 {
     let mut map: [u8; 10] = [1, 2, 3, 4, 5, 6, 7, 8, 9, 10];
     let mut new = b;
-    let mut i: usize = 0;
-    while i < n as usize {
+    for i in 0..n as usize {
         map[i] = new + 1;
         new = further(n, a, new);
-        i += 1;
     }
     map
 }
@@ -49,55 +48,52 @@ fn relabelled(n: u16, conditions: [u8; 1024]) -> [u8; 10]
     new.map
 }
 
-fn show_map(n: u16, map: &[u8; 10]) {
-    print::text(b"map");
-    print::word(n);
-    let mut i: usize = 0;
-    while i < 10 {
-        print::byte(map[i]);
-        i += 1;
+fn show_map(rt: &impl Print, n: u16, map: &[u8; 10]) -> io::Result<()> {
+    print::text(rt, b"map")?;
+    print::word(rt, n)?;
+    for d in map {
+        print::byte(rt, *d)?;
     }
-    print::text(b"\n");
+    print::text(rt, b"\n")
 }
 
 // A number, its label as a node, the node of that label, and the node whose label is the number.
-fn show_number(map: &[u8; 10], x: u16)
+fn show_number(rt: &impl Print, map: &[u8; 10], x: u16) -> io::Result<()>
     requires { Directions map.now }
 {
     let l = labels::label_of(map, Node(x));
     let back = labels::node_of(map, l);
     let labelled = labels::node_of(map, Label(x));
-    print::number(x as u32);
-    print::word(l.0);
-    print::word(back.0);
-    print::word(labelled.0);
-    print::text(b"\n");
+    print::number(rt, x as u32)?;
+    print::word(rt, l.0)?;
+    print::word(rt, back.0)?;
+    print::word(rt, labelled.0)?;
+    print::text(rt, b"\n")
 }
 
 // Every step-th number below 2^n.
-fn table(n: u16, step: u16, map: [u8; 10])
+fn table(rt: &impl Print, n: u16, step: u16, map: [u8; 10]) -> io::Result<()>
     requires n_bound { (n ≤ 10) × (1 ≤ step) × (step ≤ 1024) }
     requires directions { Directions map }
 {
-    show_map(n, &map);
+    show_map(rt, n, &map)?;
     let count = hypercube::pow2(n);
-    let mut x: u16 = 0;
-    while x < count {
-        show_number(&map, x);
-        x += step;
+    for x in (0..count).step_by(step as usize) {
+        show_number(rt, &map, x)?;
     }
+    Ok(())
 }
 
 // Every node of 5 and 6 directions, and 32 nodes of 10; the map of 6 is that of document 01's session 7.
-pub(crate) fn maps() {
-    table(5, 1, spread(5, 1, 0));
-    table(5, 1, spread(5, 2, 1));
-    table(5, 1, spread(5, 3, 4));
-    table(5, 1, relabelled(5, good_but(0, 18, 16)));
-    table(6, 1, relabelled(6, good_but(21, 29, 5)));
-    table(10, 33, spread(10, 1, 0));
-    table(10, 33, spread(10, 3, 2));
-    table(10, 33, spread(10, 9, 9));
-    table(10, 33, relabelled(10, good_but(85, 597, 84)));
-    table(10, 33, relabelled(10, good_but(0, 1023, 512)));
+pub(crate) fn maps(rt: &impl Print) -> io::Result<()> {
+    table(rt, 5, 1, spread(5, 1, 0))?;
+    table(rt, 5, 1, spread(5, 2, 1))?;
+    table(rt, 5, 1, spread(5, 3, 4))?;
+    table(rt, 5, 1, relabelled(5, good_but(0, 18, 16)))?;
+    table(rt, 6, 1, relabelled(6, good_but(21, 29, 5)))?;
+    table(rt, 10, 33, spread(10, 1, 0))?;
+    table(rt, 10, 33, spread(10, 3, 2))?;
+    table(rt, 10, 33, spread(10, 9, 9))?;
+    table(rt, 10, 33, relabelled(10, good_but(85, 597, 84)))?;
+    table(rt, 10, 33, relabelled(10, good_but(0, 1023, 512)))
 }

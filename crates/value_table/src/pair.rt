@@ -3,6 +3,7 @@
 use super::{print, sums};
 use hypercube::{Node, Reply};
 use state::{Call, State, Step};
+use std::io;
 
 // What a frame call gave.
 #[derive(Clone, Copy)]
@@ -62,30 +63,30 @@ fn by_record(rec: &mut [u8], c: Call) -> Given {
     }
 }
 
-fn show_call(c: Call) {
+fn show_call(rt: &impl Print, c: Call) -> io::Result<()> {
     match c {
-        Call::Good(x) => show_field(b" good", x.0),
-        Call::Fault(x) => show_field(b" fault", x.0),
-        Call::Repaired(x) => show_field(b" repaired", x.0),
-        Call::Relabel => print::text(b" relabel"),
-        Call::Request { job, k, strategy } => show_fields(b" request", job, k, strategy),
-        Call::Release(job) => show_field(b" release", job),
-        Call::Grow { job, k, strategy } => show_fields(b" grow", job, k, strategy),
+        Call::Good(x) => show_field(rt, b" good", x.0),
+        Call::Fault(x) => show_field(rt, b" fault", x.0),
+        Call::Repaired(x) => show_field(rt, b" repaired", x.0),
+        Call::Relabel => print::text(rt, b" relabel"),
+        Call::Request { job, k, strategy } => show_fields(rt, b" request", job, k, strategy),
+        Call::Release(job) => show_field(rt, b" release", job),
+        Call::Grow { job, k, strategy } => show_fields(rt, b" grow", job, k, strategy),
     }
 }
 
-fn show_field(name: &[u8], field: u16) {
-    print::text(name);
-    print::word(field);
+fn show_field(rt: &impl Print, name: &[u8], field: u16) -> io::Result<()> {
+    print::text(rt, name)?;
+    print::word(rt, field)
 }
 
-fn show_fields(name: &[u8], job: u16, k: u8, strategy: u8) {
-    show_field(name, job);
-    print::byte(k);
-    print::byte(strategy);
+fn show_fields(rt: &impl Print, name: &[u8], job: u16, k: u8, strategy: u8) -> io::Result<()> {
+    show_field(rt, name, job)?;
+    print::byte(rt, k)?;
+    print::byte(rt, strategy)
 }
 
-fn show_reply(r: Reply) {
+fn show_reply(rt: &impl Print, r: Reply) -> io::Result<()> {
     match r {
         Reply::Granted {
             job,
@@ -93,54 +94,58 @@ fn show_reply(r: Reply) {
             stars,
             tried,
         } => {
-            show_field(b"; granted", job);
-            print::word(low.0);
-            print::word(stars);
-            print::word(tried);
+            show_field(rt, b"; granted", job)?;
+            print::word(rt, low.0)?;
+            print::word(rt, stars)?;
+            print::word(rt, tried)
         }
         Reply::Refused { number, tried } => {
-            show_field(b"; refused", number);
-            print::word(tried);
+            show_field(rt, b"; refused", number)?;
+            print::word(rt, tried)
         }
-        Reply::Done(value) => show_field(b"; done", value),
+        Reply::Done(value) => show_field(rt, b"; done", value),
     }
 }
 
-fn show_word(low: u8, high: u8) {
-    print::next(low as u32 + 256 * (high as u32));
+fn show_word(rt: &impl Print, low: u8, high: u8) -> io::Result<()> {
+    print::next(rt, low as u32 + 256 * (high as u32))
 }
 
-fn show_given(g: Given) {
+fn show_given(rt: &impl Print, g: Given) -> io::Result<()> {
     let r = g.reply;
-    print::text(b";");
-    print::next(g.number);
-    show_word(r[0], r[1]);
-    show_word(r[2], r[3]);
-    show_word(r[4], r[5]);
-    show_word(r[6], r[7]);
-    show_word(r[8], r[9]);
-    show_word(r[10], r[11]);
+    print::text(rt, b";")?;
+    print::next(rt, g.number)?;
+    show_word(rt, r[0], r[1])?;
+    show_word(rt, r[2], r[3])?;
+    show_word(rt, r[4], r[5])?;
+    show_word(rt, r[6], r[7])?;
+    show_word(rt, r[8], r[9])?;
+    show_word(rt, r[10], r[11])
 }
 
 // The end of a line.
-pub(crate) fn show_sums(s: State, rec: &[u8]) {
-    print::text(b";");
-    print::next(sums::of_state(s));
-    print::next(sums::of_record(rec));
-    print::text(b"\n");
+pub(crate) fn show_sums(rt: &impl Print, s: &State, rec: &[u8]) -> io::Result<()> {
+    print::text(rt, b";")?;
+    print::next(rt, sums::of_state(s))?;
+    print::next(rt, sums::of_record(rec))?;
+    print::text(rt, b"\n")
 }
 
 // The call with its line; the state after it.
-pub(crate) fn called(place: u32, s: State, rec: &mut [u8], c: Call) -> State {
-    print::number(place);
-    show_call(c);
-    let step = by_values(s, c);
-    let reply = step.reply;
-    show_reply(reply);
-    show_given(by_record(rec, c));
-    let after = step.state;
-    show_sums(after, rec);
-    after
+pub(crate) fn called(
+    rt: &impl Print,
+    place: u32,
+    s: State,
+    rec: &mut [u8],
+    c: Call,
+) -> io::Result<State> {
+    print::number(rt, place)?;
+    show_call(rt, c)?;
+    let Step { state, reply } = by_values(s, c);
+    show_reply(rt, reply)?;
+    show_given(rt, by_record(rec, c))?;
+    show_sums(rt, &state, rec)?;
+    Ok(state)
 }
 
 // A node reported good on both, with no line.

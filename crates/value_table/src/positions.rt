@@ -2,28 +2,29 @@
 ghost use Rattle.std.specs.Prelude.{◌<◌};
 
 use super::print;
+use std::io;
 
-fn show_entry(i: usize, label: u16, position: u16)
+fn show_entry(rt: &impl Print, i: usize, label: u16, position: u16) -> io::Result<()>
     requires { i < 1024 }
 {
     if i % 8 == 0 {
-        print::text(b"gray");
-        print::next(i as u32);
-        print::text(b";");
+        print::text(rt, b"gray")?;
+        print::next(rt, i as u32)?;
+        print::text(rt, b";")?;
     }
-    print::word(label);
-    print::word(position);
+    print::word(rt, label)?;
+    print::word(rt, position)?;
     if i % 8 == 7 {
-        print::text(b"\n");
+        print::text(rt, b"\n")?;
     }
+    Ok(())
 }
 
-pub(crate) fn entries() {
+pub(crate) fn entries(rt: &impl Print) -> io::Result<()> {
     let labels = gray::labels();
     let positions = gray::positions();
-    let mut i: usize = 0;
-    while i < 1024 {
-        show_entry(i, labels[i], positions[i]);
-        i += 1;
+    for i in 0..1024usize {
+        show_entry(rt, i, labels[i], positions[i])?;
     }
+    Ok(())
 }

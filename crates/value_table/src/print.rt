@@ -1,23 +1,22 @@
 // Text and numbers on standard output.
-use libc::STDOUT_FILENO;
+use std::io;
 
-pub(crate) fn text(t: &[u8]) {
-    io::write_all(STDOUT_FILENO, t);
+pub(crate) fn text(rt: &impl Print, t: &[u8]) -> io::Result<()> {
+    rt.write_all(t)
 }
 
-pub(crate) fn number(x: u32) {
-    io::print_decimal(STDOUT_FILENO, x as u64);
+pub(crate) fn number(rt: &impl Print, x: u32) -> io::Result<()> {
+    rt.print(x)
 }
 
-pub(crate) fn next(x: u32) {
-    text(b" ");
-    number(x);
+pub(crate) fn next(rt: &impl Print, x: u32) -> io::Result<()> {
+    print!(rt; " {x}")
 }
 
-pub(crate) fn word(x: u16) {
-    next(x as u32);
+pub(crate) fn word(rt: &impl Print, x: u16) -> io::Result<()> {
+    print!(rt; " {x}")
 }
 
-pub(crate) fn byte(x: u8) {
-    next(x as u32);
+pub(crate) fn byte(rt: &impl Print, x: u8) -> io::Result<()> {
+    print!(rt; " {x}")
 }

@@ -4,13 +4,12 @@ ghost use Rattle.std.specs.Prelude.{◌≤◌};
 use super::{drawn, last, pair, print};
 use hypercube::Node;
 use state::State;
+use std::io;
 
 fn good_from(first: u16, end: u16, before: State, rec: &mut [u8]) -> State {
     let mut s = before;
-    let mut x = first;
-    while x < end {
+    for x in first..end {
         s = pair::reported(s, rec, Node(x));
-        x += 1;
     }
     s
 }
@@ -25,37 +24,34 @@ fn good_but_half(n: u16, fresh: State, rec: &mut [u8]) -> State
     good_from(half + 1, count, s, rec)
 }
 
-fn calls(n: u16, start: State, rec: &mut [u8]) -> State
+fn calls(rt: &impl Print, n: u16, start: State, rec: &mut [u8]) -> io::Result<State>
     requires { n ≤ 10 }
 {
     let mut s = start;
     let mut x = n as u32 + 261;
-    let mut place: u32 = 0;
-    while place < 40 {
+    for place in 0..40u32 {
         x = drawn::after(x);
-        s = pair::called(place, s, rec, drawn::call_of(n, place, x));
-        place += 1;
+        s = pair::called(rt, place, s, rec, drawn::call_of(n, place, x))?;
     }
-    s
+    Ok(s)
 }
 
-fn session(n: u16)
+fn session(rt: &impl Print, n: u16) -> io::Result<()>
     requires { n ≤ 10 }
 {
     let mut rec = [0; record::SIZE];
     cube::cube_setup(&mut rec, n as u32);
     let s = good_but_half(n, State::fresh(n as u8), &mut rec);
-    print::text(b"session");
-    print::word(n);
-    pair::show_sums(s, &rec);
-    let s = calls(n, s, &mut rec);
-    last::calls(n, s, &mut rec);
+    print::text(rt, b"session")?;
+    print::word(rt, n)?;
+    pair::show_sums(rt, &s, &rec)?;
+    let s = calls(rt, n, s, &mut rec)?;
+    last::calls(rt, n, s, &mut rec)
 }
 
-pub(crate) fn sessions() {
-    let mut n: u16 = 0;
-    while n <= 10 {
-        session(n);
-        n += 1;
+pub(crate) fn sessions(rt: &impl Print) -> io::Result<()> {
+    for n in 0..=10u16 {
+        session(rt, n)?;
     }
+    Ok(())
 }

@@ -9,10 +9,8 @@ fn added(sum: u32, byte: u8) -> u32 {
 
 fn with_bytes(before: u32, bytes: &[u8], from: usize) -> u32 {
     let mut sum = before;
-    let mut i = from;
-    while i < bytes.len() {
-        sum = added(sum, bytes[i]);
-        i += 1;
+    for byte in bytes.iter().skip(from) {
+        sum = added(sum, *byte);
     }
     sum
 }
@@ -23,15 +21,13 @@ fn with_word(sum: u32, word: u16) -> u32 {
 
 fn with_words(before: u32, words: &[u16]) -> u32 {
     let mut sum = before;
-    let mut i: usize = 0;
-    while i < words.len() {
-        sum = with_word(sum, words[i]);
-        i += 1;
+    for word in words {
+        sum = with_word(sum, *word);
     }
     sum
 }
 
-pub(crate) fn of_state(s: State) -> u32 {
+pub(crate) fn of_state(s: &State) -> u32 {
     let head = added(with_bytes(added(0, s.n), &s.map, 0), 0);
     let nodes = with_bytes(with_words(head, &s.holders), &s.conditions, 0);
     with_words(nodes, &s.stars)

@@ -5,7 +5,7 @@
 ghost use Rattle.std.specs.Prelude.{◌≤◌, ◌<◌};
 
 use hypercube::Walk;
-use libc::STDOUT_FILENO;
+use std::io;
 
 // The flag of a label in a pattern: all free, none, and seven that are mixed.
 fn flag_of(pattern: u16, l: u16) -> u8
@@ -27,80 +27,56 @@ fn flag_of(pattern: u16, l: u16) -> u8
 
 fn flags_of(pattern: u16) -> [u8; 1024] {
     let mut flags = [0; 1024];
-    let mut l: u16 = 0;
-    while l < 1024 {
-        let i = l as usize;
-        flags[i] = flag_of(pattern, l);
-        l += 1;
+    for l in 0..1024u16 {
+        flags[l as usize] = flag_of(pattern, l);
     }
     flags
 }
 
-fn print(x: u16) {
-    io::print_decimal(STDOUT_FILENO, x as u64);
-    io::write_all(STDOUT_FILENO, b" ");
-}
-
-fn print_last(x: u16) {
-    io::print_decimal(STDOUT_FILENO, x as u64);
-    io::write_all(STDOUT_FILENO, b"\n");
-}
-
-fn print_walk(walk: Walk) {
+fn print_walk(rt: &impl Print, walk: Walk) -> io::Result<()> {
     match walk {
         Walk::Found(c, tried) => {
-            io::write_all(STDOUT_FILENO, b"found ");
-            print(c.low.0);
-            print(c.stars);
-            print_last(tried);
+            let low = c.low.0;
+            let stars = c.stars;
+            println!(rt; "found {low} {stars} {tried}")
         }
-        Walk::NoneFree(count) => {
-            io::write_all(STDOUT_FILENO, b"none ");
-            print_last(count);
-        }
+        Walk::NoneFree(count) => println!(rt; "none {count}"),
     }
 }
 
 // One line for each pattern.
-fn patterns(n: u16, k: u16, strategy: u8)
+fn patterns(rt: &impl Print, n: u16, k: u16, strategy: u8) -> io::Result<()>
     requires { (k ≤ n) × (n ≤ 10) }
 {
-    let mut pattern: u16 = 0;
-    while pattern < 9 {
+    for pattern in 0..9u16 {
         let flags = flags_of(pattern);
-        print(n);
-        print(k);
-        print(strategy as u16);
-        print(pattern);
-        print_walk(walks::choose(&flags, strategy, n, k));
-        pattern += 1;
+        print!(rt; "{n} {k} {strategy} {pattern} ")?;
+        print_walk(rt, walks::choose(&flags, strategy, n, k))?;
     }
+    Ok(())
 }
 
-fn strategies(n: u16, k: u16)
+fn strategies(rt: &impl Print, n: u16, k: u16) -> io::Result<()>
     requires { (k ≤ n) × (n ≤ 10) }
 {
-    let mut strategy: u8 = 0;
-    while strategy < 5 {
-        patterns(n, k, strategy);
-        strategy += 1;
+    for strategy in 0..5u8 {
+        patterns(rt, n, k, strategy)?;
     }
+    Ok(())
 }
 
-fn dimensions(n: u16)
+fn dimensions(rt: &impl Print, n: u16) -> io::Result<()>
     requires { n ≤ 10 }
 {
-    let mut k: u16 = 0;
-    while k <= n {
-        strategies(n, k);
-        k += 1;
+    for k in 0..=n {
+        strategies(rt, n, k)?;
     }
+    Ok(())
 }
 
-fn main() {
-    let mut n: u16 = 0;
-    while n <= 10 {
-        dimensions(n);
-        n += 1;
+fn main(rt: HostRuntime) -> io::Result<()> {
+    for n in 0..=10u16 {
+        dimensions(&rt, n)?;
     }
+    Ok(())
 }
