@@ -1,5 +1,5 @@
 use Rattle.std.proofs.Common.{sym, ◌∙◌, arith}
-use Rattle.cube_run.proofs.Turning.{going_start, going_ready, going_more, finished_count, goes}
+use Rattle.cube_run.proofs.Turning.{going_start, going_ready, going_more, finished_ended, finished_count, goes, stops}
 use Rattle.cube_run.proofs.print_log.Goals as goal
 
 -- no turn is taken yet
@@ -22,3 +22,8 @@ loop-turns-preserved g c = λ f.
 -- the count is at its end
 pub returns-after-loop-turns : goal.returns-after-loop-turns
 returns-after-loop-turns g c = λ f. finished_count (c.loop-turns.invariant f) c.requires.0 c.requires.1 (omega arith)
+
+-- no write has failed, so the log has ended
+pub returns-else-goes_on : goal.returns-else-goes_on
+returns-else-goes_on g c = λ f.
+    finished_ended (c.loop-turns.invariant f) (stops c.loop-turns.t (sym c.goes_on.ensures ∙ c.if-goes_on.false) f)
