@@ -16,6 +16,7 @@ pub mod Choice
 pub mod Levels
 pub mod Words
 pub mod Replies
+pub mod Refusals
 pub mod Formed
 pub mod ByNodes
 pub mod Filled
