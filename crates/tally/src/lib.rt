@@ -21,7 +21,7 @@ pub enum Outcome {
     },
 }
 
-#[derive(Clone, Copy)]
+#[derive(Clone, Copy, Default)]
 pub struct Tally {
     pub total: u32,
     pub setup: u32,
@@ -34,50 +34,41 @@ pub struct Tally {
 fn one_more(count: u32) -> u32
     ensures { result ≡ more count }
 {
-    if count < 4294967295 { count + 1 } else { count }
+    count.saturating_add(1)
 }
 
 impl Tally {
     pub fn none() -> Tally
         ensures { result ≡ none }
     {
-        Tally {
-            total: 0,
-            setup: 0,
-            done: 0,
-            granted: 0,
-            refused: 0,
-        }
+        Tally::default()
     }
 
     // The counts with one line more.
     pub fn with(self, o: Outcome) -> Tally
         ensures { result ≡ counted self o }
     {
-        let mut t = self;
-        t.total = one_more(self.total);
+        let t = Tally {
+            total: one_more(self.total),
+            ..self
+        };
         match o {
-            Outcome::Setup(_) => {
-                t.setup = one_more(self.setup);
-            }
-            Outcome::Done(_) => {
-                t.done = one_more(self.done);
-            }
-            Outcome::Granted {
-                job: _,
-                low: _,
-                stars: _,
-                tried: _,
-            } => {
-                t.granted = one_more(self.granted);
-            }
-            Outcome::Refused {
-                number: _,
-                tried: _,
-            } => {
-                t.refused = one_more(self.refused);
-            }
+            Outcome::Setup(_) => Tally {
+                setup: one_more(t.setup),
+                ..t
+            },
+            Outcome::Done(_) => Tally {
+                done: one_more(t.done),
+                ..t
+            },
+            Outcome::Granted { .. } => Tally {
+                granted: one_more(t.granted),
+                ..t
+            },
+            Outcome::Refused { .. } => Tally {
+                refused: one_more(t.refused),
+                ..t
+            },
         }
-        t
     }
 }
