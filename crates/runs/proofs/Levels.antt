@@ -43,7 +43,7 @@ module _ {hs : List ℕ} {off : ℕ} {f : ℕ → ℕ} where
 
 -- ---- level 0
 
-pub level_flags : (f : ℕ → Bool) (n x : ℕ) → f x ≡ is_free f (subcube x (top_stars n 0))
+level_flags : (f : ℕ → Bool) (n x : ℕ) → f x ≡ is_free f (subcube x (top_stars n 0))
 level_flags f n x =
     let z : top_stars n 0 ≡ 0 = omega arith in
     rw z (sym (free-node f width 0 x (ones-zero width)))
@@ -88,6 +88,12 @@ module _ (n d : ℕ) (p : 1 ≤ d) (q : d ≤ n) where
       → Level f n e ls'
   level_stays f e lt w N L x h = ap (λ (v : ℕ). eqb v 1) (N.kept (level_start n e + x) (before e x lt w h)) ∙ L x h
 
+-- level d lies in the array, which has as much room again as level 0
+pub level_fits : (n d : ℕ) → n ≤ width → (2 ^ (n - d) ≤ 1024) × (level_start n d + 2 ^ (n - d) ≤ 2048)
+level_fits n d w =
+    let small : 2 ^ (n - d) ≤ 1024 = pow_mono {i = n - d} {j = 10} (omega arith) in
+    (small, omega arith)
+
 -- ---- flags of both
 
 -- the entry that a level gets at k, of the level at `before`
@@ -125,13 +131,24 @@ module _ (n d : ℕ) {ls l : List ℕ} (L : Laid ls (level_start n d) (both_at l
 
 -- ---- the levels, one more
 
-pub made_first : (f : ℕ → Bool) (n : ℕ) {ls : List ℕ} → length ls ≡ 2048 → Level f n 0 ls → Made f n 1 0 ls
-made_first f n {ls} e L = record {
-  long = e;
-  level = λ e l. let same : 0 ≡ e = omega arith in subst (λ (x : ℕ). Level f n x ls) same L;
-  full = λ e l r. absurd (omega arith);
-  small = omega arith;
-}
+-- level 0 is the flags, for which there is room
+pub flags_fit : (n : ℕ) → n ≤ width → (2 ^ n ≤ 1024) × (level_start n 0 + 2 ^ n ≤ 2048)
+flags_fit n w =
+    let small : 2 ^ n ≤ 1024 = pow_mono {i = n} {j = 10} (omega arith) in
+    let z : 2 ^ (n - 0) ≡ 2 ^ n = ap (λ k. 2 ^ k) (omega arith) in
+    (small, omega arith)
+
+pub flags_made : (fs : List ℕ) (n : ℕ) (ls : List ℕ) → length ls ≡ 2048
+    → ((x : ℕ) → x < 2 ^ n → get_or ls (level_start n 0 + x) 0 ≡ get_or fs x 0) → Made (flagged fs) n 1 0 ls
+flags_made fs n ls e h =
+    let z : n - 0 ≡ n = omega arith in
+    let L : Level (flagged fs) n 0 ls = λ x b. ap (λ (v : ℕ). eqb v 1) (h x (rw z at b)) ∙ level_flags (flagged fs) n x in
+    record {
+      long = e;
+      level = λ e l. let same : 0 ≡ e = omega arith in subst (λ (x : ℕ). Level (flagged fs) n x ls) same L;
+      full = λ e l r. absurd (omega arith);
+      small = omega arith;
+    }
 
 module _ (f : ℕ → Bool) (n d mask : ℕ) {ls ls' : List ℕ} {some : Bool} (p : 1 ≤ d) (q : d ≤ n) (w : n ≤ width)
     (M : Made f n d mask ls) (N : NextLevel n d ls some ls') where

@@ -1,6 +1,7 @@
 -- A block whose stars are the lowest l bits and some others is a run of the blocks that have the others alone. Assumes nothing.
 use Prim.Native.Nat.{ℕ, zero, suc, ◌+◌, ◌-◌, ◌*◌, ◌^◌, ◌<◌, ◌≤◌}
 use mathlib.Core.Path.{◌≡◌, refl, sym, ap, ap₂, ◌∙◌}
+use mathlib.Core.List.{List}
 use mathlib.Core.Bool.{Bool, true, false, cond, ◌&&◌, and-false, and-true}
 use native.Mathlib.Nat.{pow-succ'}
 use native.Mathlib.Numerals.{add-one}
@@ -8,12 +9,14 @@ use native.Mathlib.Omega.{arith}
 use borrow.Author.Tests.{ne_eqb}
 use lib.Bits.{bit_or, or_add_and, and_le_l, and_zero_r}
 use lib.Dec.{eqb}
+use lib.ListN.{get_or, take, drop}
+use Rattle.std.proofs.lemmas.List.{get_or-take, get_or-drop}
 use lib.Pow.{ones_lt, pow_pos}
 use Rattle.hypercube.specs.Bits.{width, bit}
 use Rattle.hypercube.specs.Subcubes.{free_at}
 use Rattle.hypercube.proofs.Bits.{bit_high, bit_below, ones-zero}
 use Rattle.hypercube.proofs.Halves.{free-node, across_any}
-use Rattle.runs.specs.Flagged.{run_free}
+use Rattle.runs.specs.Flagged.{flagged, run_free}
 
 and_assoc : (a b c : Bool) → (a && b) && c ≡ a && (b && c)
 and_assoc true b c = refl
@@ -87,9 +90,16 @@ is_run f k b {u} {s} h e t =
     ∙ sym (low_run f 0 width k b h (omega arith)) ∙ ap (λ (z : ℕ). free_at f width z b) stars
 
 -- one flag more
-pub lacks : (m : ℕ) (t : Bool) → eqb (bit_or m (cond t 0 1)) 0 ≡ eqb m 0 && t
+lacks : (m : ℕ) (t : Bool) → eqb (bit_or m (cond t 0 1)) 0 ≡ eqb m 0 && t
 lacks m true =
     let e : bit_or m 0 ≡ m = omega (arith, or_add_and m 0, and_zero_r m) in
     ap (λ (x : ℕ). eqb x 0) e ∙ sym (and-true (eqb m 0))
 lacks m false =
     ne_eqb (bit_or m 1) 0 (λ z. omega (arith, or_add_and m 1, and_le_l m 1)) ∙ sym (and-false (eqb m 0))
+
+-- one flag more, of a part of c
+pub run_flag : (fs : List ℕ) (b c i m v : ℕ) → i < c → v ≡ cond (eqb (get_or (take c (drop b fs)) i 0) 1) 0 1
+    → eqb m 0 ≡ run_free (flagged fs) b i → eqb (bit_or m v) 0 ≡ run_free (flagged fs) b (i + 1)
+run_flag fs b c i m v h e o =
+    let at : get_or (take c (drop b fs)) i 0 ≡ get_or fs (b + i) 0 = rw (get_or-take, get_or-drop) in
+    rw (e, at) (lacks m (flagged fs (b + i)) ∙ ap (λ (t : Bool). t && flagged fs (b + i)) o ∙ sym (run_more (flagged fs) b i))

@@ -8,11 +8,18 @@ ghost use Rattle.runs.specs.Levels.{both_flags, level_start, at_level, NextLevel
 
 use hypercube::pow2;
 
+// 1 for a flag of 1, else 0.
+pub fn indicator(flag: u8) -> u8
+    ensures { result ≡ cond (eqb flag 1) 1 0 }
+{
+    u8::from(flag == 1)
+}
+
 // 0 where the flag is 1, else 1.
 fn lack(flag: u8) -> u8
     ensures { result ≡ cond (eqb flag 1) 0 1 }
 {
-    if flag == 1 { 0 } else { 1 }
+    u8::from(flag != 1)
 }
 
 // Whether so many flags from this one on are 1. All are looked at: that is vector code.
@@ -23,10 +30,8 @@ pub fn run_free(flags: &[u8], low: u16, count: u16) -> bool
     let start = low as usize;
     let size = count as usize;
     let mut lacking: u8 = 0;
-    let mut i: usize = 0;
-    while i < size {
-        lacking = lacking | lack(flags[start + i]);
-        i += 1;
+    for flag in &flags[start..start + size] {
+        lacking |= lack(*flag);
     }
     lacking == 0
 }
@@ -35,7 +40,7 @@ pub fn run_free(flags: &[u8], low: u16, count: u16) -> bool
 fn both(a: u8, b: u8) -> u8
     ensures { result ≡ both_flags a b }
 {
-    if a == 1 && b == 1 { 1 } else { 0 }
+    u8::from(a == 1 && b == 1)
 }
 
 // Where level d of a cube of n begins.
@@ -47,35 +52,30 @@ fn level_start(n: u16, d: u16) -> u16
 }
 
 // Level 0: the flags.
+#[tactic(auto, using(crate::proofs::Levels::flags_fit))]
 fn first_level(flags: &[u8; 1024], n: u16, levels: &mut [u8; 2048])
-    requires { (n ≤ 10) × (length levels.old ≡ 2048) }
+    requires { n ≤ 10 }
     ensures { Made (flagged flags.now) n 1 0 levels.new }
 {
     let start = level_start(n, 0) as usize;
     let size = pow2(n) as usize;
-    let mut x: usize = 0;
-    while x < size {
-        levels[start + x] = flags[x];
-        x += 1;
-    }
+    levels[start..start + size].copy_from_slice(&flags[..size]);
 }
 
 // Level d, from the level before it: both halves across the star that is new. 'No' promises that no block is free; 'yes' promises nothing, for a level
 // without a free block only costs its walk.
 fn next_level(levels: &mut [u8; 2048], n: u16, d: u16) -> bool
-    requires { (1 ≤ d) × (d ≤ n) × (n ≤ 10) × (length levels.old ≡ 2048) }
+    requires { (1 ≤ d) × (d ≤ n) × (n ≤ 10) }
     ensures { NextLevel n d levels.old result levels.new }
 {
     let before = level_start(n, d - 1) as usize;
     let start = level_start(n, d) as usize;
     let size = pow2(n - d) as usize;
     let mut some: u8 = 0;
-    let mut x: usize = 0;
-    while x < size {
+    for x in 0..size {
         let flag = both(levels[before + x], levels[before + size + x]);
-        some = some | flag;
+        some |= flag;
         levels[start + x] = flag;
-        x += 1;
     }
     some != 0
 }
@@ -88,13 +88,11 @@ pub fn fill_levels(flags: &[u8; 1024], n: u16, deep: u16, levels: &mut [u8; 2048
 {
     first_level(flags, n, levels);
     let mut mask: u16 = 0;
-    let mut d: u16 = 1;
-    while d <= deep {
+    for d in 1..=deep {
         if !next_level(levels, n, d) {
             return mask;
         }
         mask += pow2(d);
-        d += 1;
     }
     mask
 }
