@@ -1,11 +1,11 @@
 -- Bytes put one after the other. Assumes nothing.
-use Prim.Native.Nat.{ℕ, suc, ◌+◌, ◌/◌, ◌%◌, ◌^◌, ◌<◌, ◌≤◌}
+use Prim.Native.Nat.{ℕ, suc, ◌+◌, ◌-◌, ◌/◌, ◌%◌, ◌^◌, ◌<◌, ◌≤◌}
 use mathlib.Core.Path.{◌≡◌, refl, ◌∙◌}
-use mathlib.Core.List.{List, [], ◌∷◌, ◌++◌}
-use native.Mathlib.Numerals.{add-one}
+use mathlib.Core.List.{List, [], ◌∷◌, ◌++◌, append_assoc}
 use native.Mathlib.Omega.{arith}
-use lib.ListN.{length, get_or, set, take, drop, length-append, length-set, drop_of_length-le}
-use lib.Seq.{sets, sets-eq, drop-cons}
+use lib.ListN.{length, set, take, drop, length-append}
+use lib.Seq.{sets, sets-eq, length-sets}
+use borrow.Rule.Slice.PartMut.{put_mid, Post-is}
 use Rattle.lines.specs.Text.{digit, decimal, item, last_item, said, line_of}
 use Rattle.tally.specs.declared.Outcome.{Outcome}
 use Rattle.lines.specs.Put.{Put, Item}
@@ -27,24 +27,13 @@ put_then {p} {p'} {p''} {at} {next} {end} bs cs f g = record {
 pub put_whole : {p p' : List ℕ} {at next : ℕ} (bs : List ℕ) → at + length bs ≤ length p → Put p at bs p' next → p' ≡ take at p ++ bs ++ drop next p
 put_whole {p} {p'} {at} bs h f = rw (f.stored, f.placed) (sets-eq bs p at h)
 
--- ---- a text stored byte by byte: after the first i of them, to store the others makes the whole
-
-module _ (text : List ℕ) (p₀ : List ℕ) (at : ℕ) where
-  pub record Storing (p : List ℕ) (i : ℕ) : Type 0 where
-    pub rest : sets p (at + i) (drop i text) ≡ sets p₀ at text
-    pub long : length p ≡ length p₀
-
-  pub store_none : Storing p₀ 0
-  store_none = let e : at + 0 ≡ at = omega arith in record { rest = rw e; long = refl }
-
-  pub store_next : (p : List ℕ) (i : ℕ) → i < length text → Storing p i → Storing (set p (at + i) (get_or text i 0)) (i + 1)
-  store_next p i h s = record {
-    rest = let e : at + suc i ≡ suc (at + i) = omega arith in rw (add-one i, e) (rw (drop-cons text i 0 h) at s.rest);
-    long = length-set p (at + i) (get_or text i 0) ∙ s.long;
-  }
-
-  pub store_end : (p : List ℕ) (i : ℕ) → length text ≤ i → Storing p i → Put p₀ at text p (at + length text)
-  store_end p i h s = record { stored = rw (drop_of_length-le text h) at s.rest; placed = refl; long = s.long }
+-- a text written to the part from its place on
+pub part_put : {p part : List ℕ} {at : ℕ} (text : List ℕ) → part ≡ text → at + length text ≤ length p
+    → Put p at text (put_mid at (at + length text - at) p part) (at + length text)
+part_put {p} {part} {at} text e h =
+    let s : put_mid at (at + length text - at) p part ≡ sets p at text =
+    rw (e, Post-is at (at + length text) p (omega arith), sets-eq text p at h, append_assoc) in
+    record { stored = s; placed = refl; long = rw s (length-sets p at text) }
 
 -- ---- a number: one digit, or the digits of a tenth and the last
 

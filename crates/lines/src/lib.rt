@@ -11,7 +11,7 @@ fn digit_of(x: u32) -> u8
     requires { x < 10 }
     ensures { result ≡ digit x }
 {
-    48 + x as u8
+    b'0' + x as u8
 }
 
 fn put_byte(out: &mut [u8], at: usize, b: u8) -> usize
@@ -26,12 +26,9 @@ fn put_text(out: &mut [u8], at: usize, text: &[u8]) -> usize
     requires { at + length text.now ≤ length out.old }
     ensures { Put out.old at text.now out.new result }
 {
-    let mut i = 0;
-    while i < text.len() {
-        out[at + i] = text[i];
-        i += 1;
-    }
-    at + text.len()
+    let next = at + text.len();
+    out[at..next].copy_from_slice(text);
+    next
 }
 
 // x in decimal: the digits of a tenth of it, then the last.
@@ -70,22 +67,22 @@ fn put_outcome(out: &mut [u8], at: usize, o: Outcome) -> usize
     ensures { Put out.old at (said o) out.new result }
 {
     match o {
-        Outcome::Setup(n) => put_last(out, at, b" setup ", n as u32),
-        Outcome::Done(value) => put_last(out, at, b" done ", value as u32),
+        Outcome::Setup(n) => put_last(out, at, b" setup ", u32::from(n)),
+        Outcome::Done(value) => put_last(out, at, b" done ", u32::from(value)),
         Outcome::Granted {
             job,
             low,
             stars,
             tried,
         } => {
-            let after_job = put_item(out, at, b" granted ", job as u32);
-            let after_low = put_item(out, after_job, b" ", low as u32);
-            let after_stars = put_item(out, after_low, b" ", stars as u32);
-            put_last(out, after_stars, b" ", tried as u32)
+            let after_job = put_item(out, at, b" granted ", u32::from(job));
+            let after_low = put_item(out, after_job, b" ", u32::from(low));
+            let after_stars = put_item(out, after_low, b" ", u32::from(stars));
+            put_last(out, after_stars, b" ", u32::from(tried))
         }
         Outcome::Refused { number, tried } => {
             let after_number = put_item(out, at, b" refused ", number);
-            put_last(out, after_number, b" ", tried as u32)
+            put_last(out, after_number, b" ", u32::from(tried))
         }
     }
 }
