@@ -1,10 +1,11 @@
 // One call of each kind on a state of dimension 3 with one thing changed, or two of one node, and on its record. The first two changes leave it
 // right.
-use super::{pair, print};
+use super::pair;
 use hypercube::Node;
 use state::{Call, State};
 use std::io;
 
+// The change is a number, since that is printed, here and by the second program.
 fn changed(change: u32) -> State {
     let mut s = State::fresh(3);
     match change {
@@ -56,8 +57,7 @@ fn state(rt: &impl Print, change: u32) -> io::Result<()> {
     let s = changed(change);
     let mut rec = [0; record::SIZE];
     record::store(s, &mut rec);
-    print::text(rt, b"damaged")?;
-    print::next(rt, change)?;
+    print!(rt; "damaged {change}")?;
     pair::show_sums(rt, &s, &rec)?;
     let s = reports(rt, s, &mut rec)?;
     others(rt, s, &mut rec)

@@ -26,7 +26,7 @@ fn job_of(x: u32) -> u16 {
 fn k_of(n: u16, x: u32) -> u8
     requires { n ≤ 10 }
 {
-    (x / 11 % (n as u32 + 2)) as u8
+    (x / 11 % (u32::from(n) + 2)) as u8
 }
 
 // Strategies up to 5.
@@ -54,7 +54,7 @@ fn growth_of(n: u16, x: u32) -> Call
     }
 }
 
-// Two faults, a relabel, then what the number gives.
+// Two faults, a relabel, then what the number gives. The kinds are numbers, each as often as it is drawn, since the second program draws the same.
 fn kind_of(place: u32, x: u32) -> u32 {
     match place {
         0 | 1 => 1,

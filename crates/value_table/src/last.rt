@@ -48,7 +48,7 @@ fn growths(
 {
     let mut s = before;
     for k in first..end {
-        s = pair::called(rt, place + k as u32, s, rec, growth(n, k))?;
+        s = pair::called(rt, place + u32::from(k), s, rec, growth(n, k))?;
     }
     Ok(s)
 }
@@ -59,7 +59,7 @@ pub(crate) fn calls(rt: &impl Print, n: u16, before: State, rec: &mut [u8]) -> i
     let half = n / 2;
     let s = requests(rt, n, before, rec)?;
     let s = growths(rt, n, 0, half, 42, s, rec)?;
-    let s = pair::called(rt, 42 + half as u32, s, rec, Call::Fault(Node(1)))?;
+    let s = pair::called(rt, 42 + u32::from(half), s, rec, Call::Fault(Node(1)))?;
     growths(rt, n, half, n + 1, 43, s, rec)?;
     Ok(())
 }

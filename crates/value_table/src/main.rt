@@ -8,7 +8,6 @@ mod last;
 mod maps;
 mod pair;
 mod positions;
-mod print;
 mod session;
 mod sums;
 

@@ -2,7 +2,6 @@
 ghost use Rattle.std.specs.Prelude.{◌≤◌, ◌<◌};
 ghost use Rattle.labels.specs.Directions.{Directions};
 
-use super::print;
 use hypercube::{Label, Node};
 use std::io;
 
@@ -21,7 +20,7 @@ fn spread(n: u8, a: u8, b: u8) -> [u8; 10]
 {
     let mut map: [u8; 10] = [1, 2, 3, 4, 5, 6, 7, 8, 9, 10];
     let mut new = b;
-    for i in 0..n as usize {
+    for i in 0..usize::from(n) {
         map[i] = new + 1;
         new = further(n, a, new);
     }
@@ -49,12 +48,11 @@ fn relabelled(n: u16, conditions: [u8; 1024]) -> [u8; 10]
 }
 
 fn show_map(rt: &impl Print, n: u16, map: &[u8; 10]) -> io::Result<()> {
-    print::text(rt, b"map")?;
-    print::word(rt, n)?;
+    print!(rt; "map {n}")?;
     for d in map {
-        print::byte(rt, *d)?;
+        print!(rt; " {d}")?;
     }
-    print::text(rt, b"\n")
+    println!(rt)
 }
 
 // A number, its label as a node, the node of that label, and the node whose label is the number.
@@ -64,11 +62,7 @@ fn show_number(rt: &impl Print, map: &[u8; 10], x: u16) -> io::Result<()>
     let l = labels::label_of(map, Node(x));
     let back = labels::node_of(map, l);
     let labelled = labels::node_of(map, Label(x));
-    print::number(rt, x as u32)?;
-    print::word(rt, l.0)?;
-    print::word(rt, back.0)?;
-    print::word(rt, labelled.0)?;
-    print::text(rt, b"\n")
+    println!(rt; "{x} {} {} {}", l.0, back.0, labelled.0)
 }
 
 // Every step-th number below 2^n.
@@ -78,7 +72,7 @@ fn table(rt: &impl Print, n: u16, step: u16, map: [u8; 10]) -> io::Result<()>
 {
     show_map(rt, n, &map)?;
     let count = hypercube::pow2(n);
-    for x in (0..count).step_by(step as usize) {
+    for x in (0..count).step_by(usize::from(step)) {
         show_number(rt, &map, x)?;
     }
     Ok(())

@@ -1,6 +1,6 @@
 // One call made on a state by value and on a record, and the line that shows both: the call, the reply by values, the number returned by the record's
 // call with the six words of its reply buffer, which held 61166 each before, and the sums of the state and of the record afterwards.
-use super::{print, sums};
+use super::sums;
 use hypercube::{Node, Reply};
 use state::{Call, State, Step};
 use std::io;
@@ -30,60 +30,42 @@ fn send(rec: &mut [u8], frame: &[u8]) -> Given {
     Given { number, reply }
 }
 
-// A frame of six bytes: its kind, low byte first, and one field.
-fn six(rec: &mut [u8], low: u8, high: u8, field: u16) -> Given {
-    let frame = [6, 0, low, high, (field % 256) as u8, (field / 256) as u8];
-    send(rec, &frame)
+// A frame of six bytes: its kind and one field.
+fn six(rec: &mut [u8], kind: u16, field: u16) -> Given {
+    let [low, high] = kind.to_le_bytes();
+    let [first, second] = field.to_le_bytes();
+    send(rec, &[6, 0, low, high, first, second])
 }
 
-// A frame of eight bytes, a request's or a growth's: the low byte of its kind, and the fields.
-fn eight(rec: &mut [u8], low: u8, job: u16, k: u8, strategy: u8) -> Given {
-    let frame = [
-        8,
-        0,
-        low,
-        2,
-        (job % 256) as u8,
-        (job / 256) as u8,
-        k,
-        strategy,
-    ];
-    send(rec, &frame)
+// A frame of eight bytes, a request's or a growth's: its kind and the fields.
+fn eight(rec: &mut [u8], kind: u16, job: u16, k: u8, strategy: u8) -> Given {
+    let [low, high] = kind.to_le_bytes();
+    let [first, second] = job.to_le_bytes();
+    send(rec, &[8, 0, low, high, first, second, k, strategy])
 }
 
 fn by_record(rec: &mut [u8], c: Call) -> Given {
     match c {
-        Call::Good(x) => six(rec, 1, 1, x.0),
-        Call::Fault(x) => six(rec, 2, 1, x.0),
-        Call::Repaired(x) => six(rec, 3, 1, x.0),
+        Call::Good(x) => six(rec, 0x0101, x.0),
+        Call::Fault(x) => six(rec, 0x0102, x.0),
+        Call::Repaired(x) => six(rec, 0x0103, x.0),
         Call::Relabel => send(rec, b"\x04\x00\x03\x02"),
-        Call::Request { job, k, strategy } => eight(rec, 1, job, k, strategy),
-        Call::Release(job) => six(rec, 2, 2, job),
-        Call::Grow { job, k, strategy } => eight(rec, 4, job, k, strategy),
+        Call::Request { job, k, strategy } => eight(rec, 0x0201, job, k, strategy),
+        Call::Release(job) => six(rec, 0x0202, job),
+        Call::Grow { job, k, strategy } => eight(rec, 0x0204, job, k, strategy),
     }
 }
 
 fn show_call(rt: &impl Print, c: Call) -> io::Result<()> {
     match c {
-        Call::Good(x) => show_field(rt, b" good", x.0),
-        Call::Fault(x) => show_field(rt, b" fault", x.0),
-        Call::Repaired(x) => show_field(rt, b" repaired", x.0),
-        Call::Relabel => print::text(rt, b" relabel"),
-        Call::Request { job, k, strategy } => show_fields(rt, b" request", job, k, strategy),
-        Call::Release(job) => show_field(rt, b" release", job),
-        Call::Grow { job, k, strategy } => show_fields(rt, b" grow", job, k, strategy),
+        Call::Good(x) => print!(rt; " good {}", x.0),
+        Call::Fault(x) => print!(rt; " fault {}", x.0),
+        Call::Repaired(x) => print!(rt; " repaired {}", x.0),
+        Call::Relabel => print!(rt; " relabel"),
+        Call::Request { job, k, strategy } => print!(rt; " request {job} {k} {strategy}"),
+        Call::Release(job) => print!(rt; " release {job}"),
+        Call::Grow { job, k, strategy } => print!(rt; " grow {job} {k} {strategy}"),
     }
-}
-
-fn show_field(rt: &impl Print, name: &[u8], field: u16) -> io::Result<()> {
-    print::text(rt, name)?;
-    print::word(rt, field)
-}
-
-fn show_fields(rt: &impl Print, name: &[u8], job: u16, k: u8, strategy: u8) -> io::Result<()> {
-    show_field(rt, name, job)?;
-    print::byte(rt, k)?;
-    print::byte(rt, strategy)
 }
 
 fn show_reply(rt: &impl Print, r: Reply) -> io::Result<()> {
@@ -93,42 +75,24 @@ fn show_reply(rt: &impl Print, r: Reply) -> io::Result<()> {
             low,
             stars,
             tried,
-        } => {
-            show_field(rt, b"; granted", job)?;
-            print::word(rt, low.0)?;
-            print::word(rt, stars)?;
-            print::word(rt, tried)
-        }
-        Reply::Refused { number, tried } => {
-            show_field(rt, b"; refused", number)?;
-            print::word(rt, tried)
-        }
-        Reply::Done(value) => show_field(rt, b"; done", value),
+        } => print!(rt; "; granted {job} {} {stars} {tried}", low.0),
+        Reply::Refused { number, tried } => print!(rt; "; refused {number} {tried}"),
+        Reply::Done(value) => print!(rt; "; done {value}"),
     }
 }
 
-fn show_word(rt: &impl Print, low: u8, high: u8) -> io::Result<()> {
-    print::next(rt, low as u32 + 256 * (high as u32))
-}
-
 fn show_given(rt: &impl Print, g: Given) -> io::Result<()> {
-    let r = g.reply;
-    print::text(rt, b";")?;
-    print::next(rt, g.number)?;
-    show_word(rt, r[0], r[1])?;
-    show_word(rt, r[2], r[3])?;
-    show_word(rt, r[4], r[5])?;
-    show_word(rt, r[6], r[7])?;
-    show_word(rt, r[8], r[9])?;
-    show_word(rt, r[10], r[11])
+    print!(rt; "; {}", g.number)?;
+    let (words, _) = g.reply.as_chunks();
+    for word in words {
+        print!(rt; " {}", u16::from_le_bytes(*word))?;
+    }
+    Ok(())
 }
 
 // The end of a line.
 pub(crate) fn show_sums(rt: &impl Print, s: &State, rec: &[u8]) -> io::Result<()> {
-    print::text(rt, b";")?;
-    print::next(rt, sums::of_state(s))?;
-    print::next(rt, sums::of_record(rec))?;
-    print::text(rt, b"\n")
+    println!(rt; "; {} {}", sums::of_state(s), sums::of_record(rec))
 }
 
 // The call with its line; the state after it.
@@ -139,7 +103,7 @@ pub(crate) fn called(
     rec: &mut [u8],
     c: Call,
 ) -> io::Result<State> {
-    print::number(rt, place)?;
+    print!(rt; "{place}")?;
     show_call(rt, c)?;
     let Step { state, reply } = by_values(s, c);
     show_reply(rt, reply)?;
@@ -151,6 +115,6 @@ pub(crate) fn called(
 // A node reported good on both, with no line.
 pub(crate) fn reported(s: State, rec: &mut [u8], x: Node) -> State {
     let step = allocator::good(s, x);
-    six(rec, 1, 1, x.0);
+    six(rec, 0x0101, x.0);
     step.state
 }

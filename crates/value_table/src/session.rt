@@ -1,7 +1,7 @@
 // A session for each n: a fresh cube, every node but 2^n / 2 reported good, then 40 calls that are drawn, and its end.
 ghost use Rattle.std.specs.Prelude.{◌≤◌};
 
-use super::{drawn, last, pair, print};
+use super::{drawn, last, pair};
 use hypercube::Node;
 use state::State;
 use std::io;
@@ -28,7 +28,7 @@ fn calls(rt: &impl Print, n: u16, start: State, rec: &mut [u8]) -> io::Result<St
     requires { n ≤ 10 }
 {
     let mut s = start;
-    let mut x = n as u32 + 261;
+    let mut x = u32::from(n) + 261;
     for place in 0..40u32 {
         x = drawn::after(x);
         s = pair::called(rt, place, s, rec, drawn::call_of(n, place, x))?;
@@ -40,10 +40,9 @@ fn session(rt: &impl Print, n: u16) -> io::Result<()>
     requires { n ≤ 10 }
 {
     let mut rec = [0; record::SIZE];
-    cube::cube_setup(&mut rec, n as u32);
+    cube::cube_setup(&mut rec, u32::from(n));
     let s = good_but_half(n, State::fresh(n as u8), &mut rec);
-    print::text(rt, b"session")?;
-    print::word(rt, n)?;
+    print!(rt; "session {n}")?;
     pair::show_sums(rt, &s, &rec)?;
     let s = calls(rt, n, s, &mut rec)?;
     last::calls(rt, n, s, &mut rec)
