@@ -7,8 +7,9 @@ ghost use Rattle.std.specs.Prelude.{◌≤◌, ◌<◌};
 use hypercube::Walk;
 use std::io;
 
-// The flag of a label in a pattern: all free, none, and seven that are mixed.
-fn flag_of(pattern: u16, l: u16) -> u8
+// The flag of a label in a pattern: all free, none, and seven that are mixed. A pattern is a number, since that is printed, here and by the second
+// program.
+fn flag_of(pattern: u16, l: usize) -> u8
     requires { l < 1024 }
 {
     let free = match pattern {
@@ -22,24 +23,20 @@ fn flag_of(pattern: u16, l: u16) -> u8
         7 => l % 16 < 11,
         _ => l % 341 != 20,
     };
-    if free { 1 } else { 0 }
+    u8::from(free)
 }
 
 fn flags_of(pattern: u16) -> [u8; 1024] {
     let mut flags = [0; 1024];
-    for l in 0..1024u16 {
-        flags[l as usize] = flag_of(pattern, l);
+    for (l, flag) in flags.iter_mut().enumerate() {
+        *flag = flag_of(pattern, l);
     }
     flags
 }
 
 fn print_walk(rt: &impl Print, walk: Walk) -> io::Result<()> {
     match walk {
-        Walk::Found(c, tried) => {
-            let low = c.low.0;
-            let stars = c.stars;
-            println!(rt; "found {low} {stars} {tried}")
-        }
+        Walk::Found(c, tried) => println!(rt; "found {} {} {tried}", c.low.0, c.stars),
         Walk::NoneFree(count) => println!(rt; "none {count}"),
     }
 }
