@@ -8,8 +8,15 @@ ghost use Rattle.state.specs.Acts.{report_step};
 ghost use Rattle.record.specs.Layout.{record_size, valid_record, decode};
 ghost use Rattle.steps.specs.Carried.{Does};
 
-use hypercube::{Node, Reply};
-use state::refused;
+use hypercube::{Node, Refusal, Reply};
+
+// A node's conditions, by which a report says what it is: 'repaired', 'good' and 'fault'. They are bytes, and no enum: what `report_on` ensures
+// speaks of each byte, and an enum would ask its callers for one of three.
+pub const UNCONFIRMED: u8 = 0;
+
+pub const GOOD: u8 = 1;
+
+pub const FAULTY: u8 = 2;
 
 // Whether x is none of the cube's nodes.
 fn beyond(rec: &[u8], x: Node) -> bool
@@ -19,14 +26,14 @@ fn beyond(rec: &[u8], x: Node) -> bool
     steps::nodes_of(rec) <= x.0 as usize
 }
 
-// Whether a node in this condition may not be reported: 'good' (1) if it is faulty, 'repaired' (0) unless it is, 'fault' (2) never.
+// Whether a node in this condition may not be reported: 'good' if it is faulty, 'repaired' unless it is, 'fault' never.
 fn is_barred(reported: u8, condition: u8) -> bool
     ensures { result ≡ barred reported condition }
 {
     match reported {
-        2 => false,
-        1 => condition == 2,
-        _ => condition != 2,
+        FAULTY => false,
+        GOOD => condition == FAULTY,
+        _ => condition != FAULTY,
     }
 }
 
@@ -35,7 +42,7 @@ fn told_of(rec: &[u8], x: Node, reported: u8) -> u16
     requires { (length rec.now ≡ record_size) × (x.0 < 1024) }
     ensures { result ≡ told_of (decode rec.now) x.0 reported }
 {
-    if reported == 2 {
+    if reported == FAULTY {
         nodes::holder_at(rec, x)
     } else {
         0
@@ -48,10 +55,10 @@ pub fn report_on(rec: &mut [u8], x: Node, reported: u8) -> Reply
     ensures { Does rec.old (report_step (decode rec.old) x.0 reported) result rec.new }
 {
     if beyond(rec, x) {
-        return refused(8);
+        return Refusal::NoNode.reply(0);
     }
     if is_barred(reported, nodes::condition_at(rec, x)) {
-        return refused(12);
+        return Refusal::WrongReport.reply(0);
     }
     let told = told_of(rec, x, reported);
     nodes::set_condition(rec, x, reported);

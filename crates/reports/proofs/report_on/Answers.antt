@@ -6,7 +6,7 @@ use Rattle.reports.proofs.Inside.{node-asked, node-written, barred_is}
 use Rattle.reports.proofs.report_on.Goals as goal
 
 pub returns-then-beyond : goal.returns-then-beyond
-returns-then-beyond c = refuses_at _ _ _ 0 (λ z. absurd (omega arith)) (sym c.beyond.ensures ∙ c.if-beyond.true) c.refused.ensures
+returns-then-beyond c = refuses_at _ _ _ 0 (λ z. absurd (omega arith)) (sym c.beyond.ensures ∙ c.if-beyond.true) c.reply.ensures
 
 pub condition_at-requires : goal.condition_at-requires
 condition_at-requires c = node-asked _ _ c.beyond.ensures c.requires c.if-beyond.false
@@ -17,7 +17,7 @@ returns-then-is_barred c =
       sym c.beyond.ensures ∙ c.if-beyond.false,
       barred_is c.args.reported c.condition_at.ensures c.is_barred.ensures c.if-is_barred.true,
     )
-    c.refused-then-is_barred.ensures
+    c.reply-then-is_barred.ensures
 
 pub told_of-told-requires : goal.told_of-told-requires
 told_of-told-requires c = node-asked _ _ c.beyond.ensures c.requires c.if-beyond.false
