@@ -71,10 +71,8 @@ fn whole_to(bytes: &[u8], n: u16, at: u16, end: u16) -> bool
     ensures { result ≡ all_below (whole_at bytes.now n) end }
 {
     let mut right = true;
-    let mut x = at;
-    while x < end {
+    for x in at..end {
         right = right & is_whole(bytes, n, x, holder_at(bytes, x), stars_at(bytes, x));
-        x += 1;
     }
     right
 }
@@ -93,26 +91,15 @@ fn block_whole(bytes: &[u8], n: u16, at: u16, end: u16) -> bool
     whole_to(bytes, n, at, end)
 }
 
-// The end of the block from `at` on: 64 nodes, or what is left.
-fn block_end(at: u16, size: u16) -> u16
-    requires { (at < size) × (size ≤ 1024) }
-    ensures { (at < result) × (result ≤ size) }
-{
-    if size - at < 64 { size } else { at + 64 }
-}
-
 // Whether each held node is part of a whole subcube; `size` is 2^n. The blocks after one that is not so are not read.
 fn all_whole(bytes: &[u8], n: u16, size: u16) -> bool
     requires { (length bytes.now ≡ record_size) × ((n ≤ 10) × (size ≤ 1024)) }
     ensures { result ≡ all_below (whole_at bytes.now n) size }
 {
-    let mut at: u16 = 0;
-    while at < size {
-        let end = block_end(at, size);
-        if !block_whole(bytes, n, at, end) {
+    for at in (0..size).step_by(64) {
+        if !block_whole(bytes, n, at, size.min(at + 64)) {
             return false;
         }
-        at = end;
     }
     true
 }
@@ -133,11 +120,9 @@ fn lowest_nodes(bytes: &[u8], size: u16) -> u16
     requires { (length bytes.now ≡ record_size) × (size ≤ 1024) }
     ensures { result ≡ count_below size (lowest_at bytes.now) }
 {
-    let mut count: u16 = 0;
-    let mut x: u16 = 0;
-    while x < size {
+    let mut count = 0;
+    for x in 0..size {
         count += lowest_one(x, holder_at(bytes, x), stars_at(bytes, x));
-        x += 1;
     }
     count
 }
@@ -175,10 +160,8 @@ fn all_alone(bytes: &[u8], size: u16) -> bool
 {
     let mut marks: [u8; 8192] = [0; 8192];
     let mut right = true;
-    let mut x: u16 = 0;
-    while x < size {
+    for x in 0..size {
         right = right & is_alone(&mut marks, x, holder_at(bytes, x), stars_at(bytes, x));
-        x += 1;
     }
     right
 }
@@ -197,10 +180,8 @@ fn none_before(bytes: &[u8], x: u16, job: u16) -> bool
     ensures { result ≡ not (any_below (lowest_for bytes.now job) x) }
 {
     let mut seen = false;
-    let mut y: u16 = 0;
-    while y < x {
+    for y in 0..x {
         seen = seen | is_lowest_for(bytes, job, y);
-        y += 1;
     }
     !seen
 }
@@ -225,10 +206,8 @@ fn pairs_alone(bytes: &[u8], size: u16) -> bool
     ensures { result ≡ all_below (alone_at bytes.now) size }
 {
     let mut right = true;
-    let mut x: u16 = 0;
-    while x < size {
+    for x in 0..size {
         right = right & is_first(bytes, x, holder_at(bytes, x), stars_at(bytes, x));
-        x += 1;
     }
     right
 }
