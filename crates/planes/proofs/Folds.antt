@@ -3,12 +3,14 @@ use Prim.Native.Nat.{ℕ, zero, suc, ◌+◌, ◌-◌, ◌/◌, ◌%◌, ◌^◌
 use mathlib.Core.Logic.{◌≢◌}
 use mathlib.Core.Path.{◌≡◌, refl, sym, ap, ap₂, subst, ◌∙◌}
 use mathlib.Core.Bool.{Bool, false, ◌&&◌, and-false}
-use mathlib.Core.List.{List}
+use mathlib.Core.List.{List, [], ◌∷◌}
 use native.Mathlib.Nat.{pow-succ'}
 use native.Mathlib.Omega.{arith}
 use borrow.Author.Tests.{ne_eqb}
 use lib.Bits.{bit_or, or_add_and, and_le_l, and_le_r}
-use lib.ListN.{get_or}
+use lib.ListN.{get_or, take}
+use Rattle.std.specs.List.{fold}
+use Rattle.std.proofs.lemmas.List.{get_or-take}
 use lib.Pow.{pow_pos}
 use Rattle.hypercube.specs.Bits.{width, bit, clear}
 use Rattle.hypercube.specs.Subcubes.{subcube, is_free}
@@ -36,11 +38,27 @@ module _ (f : ℕ → Bool) (s i : ℕ) (bs : List ℕ) (h : i < width) (z : bit
 
 -- ---- the empty set
 
-pub or_zero : (a b : ℕ) → bit_or a b ≡ 0 → (a ≡ 0) × (b ≡ 0)
+or_zero : (a b : ℕ) → bit_or a b ≡ 0 → (a ≡ 0) × (b ≡ 0)
 or_zero a b e = (omega (arith, or_add_and a b, and_le_r a b), omega (arith, or_add_and a b, and_le_l a b))
 
-pub zeros_empty : (bs : List ℕ) → ((e : ℕ) → e < 128 → get_or bs e 0 ≡ 0) → Empty bs
+-- so it is of a whole list
+or_all : (a : ℕ) (xs : List ℕ) → fold bit_or a xs ≡ 0 → (a ≡ 0) × ((k : ℕ) → get_or xs k 0 ≡ 0)
+or_all a [] e = (e, λ k. refl)
+or_all a (x ∷ xs) e =
+    let more = or_all (bit_or a x) xs e in
+    let both = or_zero a x more.0 in
+    (both.0, go both.1 more.1)
+  where
+    go : x ≡ 0 → ((k : ℕ) → get_or xs k 0 ≡ 0) → (k : ℕ) → get_or (x ∷ xs) k 0 ≡ 0
+    go h m zero = h
+    go h m (suc k) = m k
+
+zeros_empty : (bs : List ℕ) → ((e : ℕ) → e < 128 → get_or bs e 0 ≡ 0) → Empty bs
 zeros_empty bs Z x b = rw (Z (x % 128) (omega arith)) (ne_eqb (bit 0 (x / 128)) 1 (λ q. omega (arith, bit-zero (x / 128))))
+
+-- the first 128 entries have nothing in any
+pub none_empty : (bs : List ℕ) → fold bit_or 0 (take 128 bs) ≡ 0 → Empty bs
+none_empty bs q = zeros_empty bs (λ e h. sym (get_or-take 128 bs e 0 h) ∙ (or_all 0 (take 128 bs) q).1 e)
 
 -- it is itself across any star
 module _ (bs : List ℕ) (E : Empty bs) where

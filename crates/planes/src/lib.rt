@@ -9,13 +9,7 @@ ghost use Rattle.planes.specs.Rows.{NoMember};
 ghost use Rattle.planes.specs.Planes.{PackedFrom, Across, NoPair, High, planes_of, Empty, Folded, tops, Opened, ZeroBelow};
 
 use hypercube::pow2;
-
-// 1 for a flag of 1, else 0.
-fn one(flag: u8) -> u8
-    ensures { result ≡ cond (eqb flag 1) 1 0 }
-{
-    if flag == 1 { 1 } else { 0 }
-}
+use runs::indicator;
 
 // Plane j before those from j + 1 on: each entry doubled, and the flag added.
 fn add_plane(flags: &[u8; 1024], j: usize, bytes: &mut [u8; 192])
@@ -23,10 +17,8 @@ fn add_plane(flags: &[u8; 1024], j: usize, bytes: &mut [u8; 192])
     ensures { PackedFrom flags.now j bytes.new }
 {
     let start = 128 * j;
-    let mut e: usize = 0;
-    while e < 128 {
-        bytes[e] = 2 * bytes[e] + one(flags[start + e]);
-        e += 1;
+    for e in 0..128 {
+        bytes[e] = 2 * bytes[e] + indicator(flags[start + e]);
     }
 }
 
@@ -35,9 +27,7 @@ fn pack(flags: &[u8; 1024]) -> [u8; 192]
     ensures { Folded (flagged flags.now) 0 result }
 {
     let mut bytes = [0; 192];
-    let mut j: usize = 8;
-    while 0 < j {
-        j -= 1;
+    for j in (0..8).rev() {
         add_plane(flags, j, &mut bytes);
     }
     bytes
@@ -57,10 +47,8 @@ fn star_low(from: &[u8; 192], star: u8) -> [u8; 192]
 {
     let step = star as usize;
     let mut to = [0; 192];
-    let mut e: usize = 0;
-    while e < 128 {
+    for e in 0..128 {
         to[e] = from[e] & from[e + step] & keep(e as u8, star);
-        e += 1;
     }
     to
 }
@@ -71,10 +59,8 @@ fn star_high(from: &[u8; 192], shift: u8, kept: u8) -> [u8; 192]
     ensures { (i : ℕ) → High i shift kept → Across i from.now result }
 {
     let mut to = [0; 192];
-    let mut e: usize = 0;
-    while e < 128 {
+    for e in 0..128 {
         to[e] = from[e] & (from[e] >> shift) & kept;
-        e += 1;
     }
     to
 }
@@ -96,13 +82,7 @@ fn fold_star(from: &[u8; 192], i: u16) -> [u8; 192]
 fn is_empty(bytes: &[u8; 192]) -> bool
     ensures { result ≡ true → Empty bytes.now }
 {
-    let mut any: u8 = 0;
-    let mut at: usize = 0;
-    while at < 128 {
-        any = any | bytes[at];
-        at += 1;
-    }
-    any == 0
+    bytes[..128].iter().fold(0, |any, entry| any | *entry) == 0
 }
 
 // Across the lowest l stars, from the highest of them down. An empty set stays empty.
@@ -111,12 +91,10 @@ fn fold_bottom(bytes: &[u8; 192], l: u16) -> [u8; 192]
     ensures { (f : ℕ → Bool) (s : ℕ) → ZeroBelow l s → Folded f s bytes.now → Folded f (s + (2 ^ l - 1)) result }
 {
     let mut folded = *bytes;
-    let mut i = l;
-    while 0 < i {
+    for i in (0..l).rev() {
         if is_empty(&folded) {
             return folded;
         }
-        i -= 1;
         folded = fold_star(&folded, i);
     }
     folded
@@ -127,12 +105,10 @@ fn no_pair(bytes: &[u8; 192], first: u16, end: u16) -> bool
     requires { end ≤ 10 }
     ensures { result ≡ true → (i : ℕ) → first ≤ i → i < end → NoPair i bytes.now }
 {
-    let mut i = first;
-    while i < end {
+    for i in first..end {
         if !is_empty(&fold_star(bytes, i)) {
             return false;
         }
-        i += 1;
     }
     true
 }
@@ -172,14 +148,12 @@ pub fn open_rows(flags: &[u8; 1024], n: u16, low: u16, deep: u16) -> u16
 {
     let mut folded = pack(flags);
     let mut mask: u16 = 0;
-    let mut d: u16 = 1;
-    while d <= deep {
+    for d in 1..=deep {
         folded = fold_star(&folded, n - d);
         if is_empty(&folded) {
             return mask;
         }
         mask += open_bit(&folded, n, d, low - d);
-        d += 1;
     }
     mask
 }
