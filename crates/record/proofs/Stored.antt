@@ -1,5 +1,5 @@
 -- A record stored from the front, byte by byte or a part at a time, with the rest left; it is in the end the state's. Assumes nothing.
-use Prim.Native.Nat.{ℕ, ◌+◌, ◌*◌, ◌-◌, ◌<◌, ◌≤◌}
+use Prim.Native.Nat.{ℕ, ◌+◌, ◌*◌, ◌%◌, ◌/◌, ◌-◌, ◌<◌, ◌≤◌}
 use mathlib.Core.Logic.{⊎_elim}
 use mathlib.Core.Path.{◌≡◌, refl, sym, subst, ◌∙◌}
 use mathlib.Core.List.{List}
@@ -7,13 +7,14 @@ use native.Mathlib.Omega.{arith}
 use borrow.Author.Count.{below_more}
 use lib.ListN.{length, get_or, set, length-set}
 use lib.Seq.{ext_get_or, get_or-set_same, get_or-set_other}
-use Rattle.hypercube.specs.Words.{words}
+use Rattle.hypercube.specs.Words.{words, put_word}
 use Rattle.hypercube.proofs.Bits.{lt_or}
 use Rattle.hypercube.proofs.Filled.{filled_none, filled_next}
 use Rattle.state.specs.declared.State.{State}
 use Rattle.state.proofs.Valid.{Sized}
 use Rattle.record.specs.Layout.{record_size, encode}
 use Rattle.record.specs.Stored.{Begun, Stored, Laid}
+use Rattle.record.proofs.Between.{low_at_lem, high_at_lem}
 use Rattle.record.proofs.Round.{length-encode, Says}
 
 module _ {s : State} {r : List ℕ} where
@@ -60,6 +61,13 @@ module _ {bs : List ℕ} {at : ℕ} {r : List ℕ} where
   -- the same place, written another way
   pub laid_to : {i : ℕ} {l : List ℕ} (j : ℕ) → Laid bs at i r l → i ≡ j → Laid bs at j r l
   laid_to {i} {l} j p e = subst (λ (k : ℕ). Laid bs at k r l) e p
+
+-- two bytes more: those of number i
+pub laid_word : (ns : List ℕ) (i : ℕ) {at : ℕ} {r l : List ℕ} → Laid (words ns) at (2 * i) r l → i < length ns
+    → at + 2 * length ns ≤ length r → Laid (words ns) at (2 * (i + 1)) r (put_word l (at + 2 * i) (get_or ns i 0))
+laid_word ns i {at} p h fits =
+    let low = laid_next (at + 2 * i) (get_or ns i 0 % 256) p refl (omega arith) (sym (low_at_lem ns i h)) in
+    laid_to (2 * (i + 1)) (laid_next (at + 2 * i + 1) (get_or ns i 0 / 256) low (omega arith) (omega arith) (sym (high_at_lem ns i h))) (omega arith)
 
 -- a state's record stored up to the words l, and these laid
 pub begun_laid : (s : State) (at : ℕ) (l : List ℕ) {r r' : List ℕ} → Says (encode s) at l → Begun s at r → Laid (words l) at (2 * length l) r r'

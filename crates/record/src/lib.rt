@@ -3,7 +3,7 @@
 
 ghost use Rattle.std.specs.Prelude.{◌≡◌, cond, map, ◌+◌, ◌*◌, ◌<◌, ◌≤◌, max, eqb, length, get_or};
 ghost use Rattle.hypercube.specs.Lists.{from, all_below};
-ghost use Rattle.hypercube.specs.Words.{word, words};
+ghost use Rattle.hypercube.specs.Words.{word, words, put_word};
 ghost use Rattle.labels.specs.Flags.{EmptyFrom};
 ghost use Rattle.state.specs.Valid.{nodes_right, stars_right, valid};
 ghost use Rattle.record.specs.Layout.{holders_at, conditions_at, stars_at, record_size, encode, decode, head_right, valid_record, star_of};
@@ -35,20 +35,41 @@ const KIND: u16 = 2;
 
 const KIND_LOW: u8 = KIND as u8;
 
-fn wide(b: u8) -> u16
-    ensures { (result ≡ b) × (result < 256) }
-{
-    b as u16
-}
-
 // The two bytes from place `at` on, little-endian.
+#[tactic(auto, unfolding(hypercube::specs::Words::word))]
 pub fn word(bytes: &[u8], at: usize) -> u16
     requires { at + 1 < length bytes.now }
     ensures { result ≡ word bytes.now at }
 {
-    let low = wide(bytes[at]);
-    let high = wide(bytes[at + 1]);
-    low + 256 * high
+    u16::from_le_bytes([bytes[at], bytes[at + 1]])
+}
+
+// x as the two bytes from place `at` on, little-endian.
+pub fn put_word(bytes: &mut [u8], at: usize, x: u16)
+    requires { at + 1 < length bytes.old }
+    ensures { bytes.new ≡ put_word bytes.old at x }
+{
+    let [low, high] = x.to_le_bytes();
+    bytes[at] = low;
+    bytes[at + 1] = high;
+}
+
+// Node x's holder, read in place.
+#[tactic(auto, using(crate::proofs::Round::decode_holder))]
+pub fn holder_at(bytes: &[u8], x: u16) -> u16
+    requires { (length bytes.now ≡ record_size) × (x < 1024) }
+    ensures { result ≡ get_or (decode bytes.now).holders x 0 }
+{
+    word(bytes, HOLDERS + 2 * usize::from(x))
+}
+
+// Node x's star bits, read in place.
+#[tactic(auto, using(crate::proofs::Round::decode_star))]
+pub fn stars_at(bytes: &[u8], x: u16) -> u16
+    requires { (length bytes.now ≡ record_size) × (x < 1024) }
+    ensures { result ≡ get_or (decode bytes.now).stars x 0 }
+{
+    word(bytes, STARS + 2 * usize::from(x))
 }
 
 // The dimension that a record says.
@@ -275,16 +296,12 @@ fn put_head(s: State, bytes: &mut [u8])
 }
 
 // The two bytes of each number, from place `at` on. The others stay.
-fn put_words(part: &[u16], at: usize, bytes: &mut [u8])
+pub fn put_words(part: &[u16], at: usize, bytes: &mut [u8])
     requires { at + 2 * length part.now ≤ length bytes.old }
     ensures { Laid (words part.now) at (2 * length part.now) bytes.old bytes.new }
 {
-    let mut x = 0;
-    while x < part.len() {
-        let v = part[x];
-        bytes[at + 2 * x] = (v % 256) as u8;
-        bytes[at + 2 * x + 1] = (v / 256) as u8;
-        x += 1;
+    for (x, v) in part.iter().enumerate() {
+        put_word(bytes, at + 2 * x, *v);
     }
 }
 
