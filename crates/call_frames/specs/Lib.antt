@@ -1,0 +1,2 @@
+-- The bytes of each call's frame.
+pub mod Frames
