@@ -7,7 +7,7 @@ use native.Mathlib.Omega.{arith}
 use lib.ListN.{length}
 use lib.Pow.{pow_pos}
 use Rattle.hypercube.specs.Lists.{In, over, only}
-use Rattle.hypercube.specs.Bits.{width, clear, bit}
+use Rattle.hypercube.specs.Bits.{width, clear}
 use Rattle.hypercube.specs.Subcubes.{subcube, is_free}
 use Rattle.hypercube.specs.Families.{tree_member, places, tree, further, more, first_free}
 use Rattle.hypercube.specs.declared.Subcube.{Subcube}

@@ -175,19 +175,13 @@ fn each_walk(flags: &[u8; 1024], labels: &[u16], gray: bool, n: u16, k: u16) -> 
     ensures { result ≡ first_free (is_free (flagged flags.now)) (each gray n k) 0 }
 {
     let count = each_count(gray, n, k);
-    let mut tried: u16 = 0;
-    let mut alpha: u16 = 0;
-    'walk: loop {
-        if count <= alpha {
-            break 'walk Walk::NoneFree(tried);
-        }
+    for alpha in 0..count {
         let m = each_member(labels, gray, n, k, alpha);
-        tried += 1;
         if member_free(flags, m, k) {
-            break 'walk Walk::Found(m, tried);
+            return Walk::Found(m, alpha + 1);
         }
-        alpha += 1;
     }
+    Walk::NoneFree(count)
 }
 
 // Buddy: "stars are the lowest k bits. Ascending by lowest label."
@@ -294,35 +288,31 @@ fn tree_rows(flags: &[u8; 1024], n: u16, low: u16) -> Walk
     let end = pow2(digits);
     let mut tried: u16 = 0;
     let mut seen: u16 = 0; // the rows whose block was free
-    let mut alpha: u16 = 0; // the least α
-    'walk: loop {
-        if end <= alpha {
-            break 'walk Walk::NoneFree(tried);
-        }
+    // The least α,
+    for alpha in 0..end {
         if none_at(flags, n, low, alpha == ROWS) {
-            break 'walk Walk::NoneFree(tree_count(n, low + 1));
+            return Walk::NoneFree(tree_count(n, low + 1));
         }
         // Where the block is not free, no member that shares it is.
         if block_free(flags, n, 0, low, alpha) {
             seen += 1;
             if none_at(flags, n, low, seen == SOME) {
-                break 'walk Walk::NoneFree(tree_count(n, low + 1));
+                return Walk::NoneFree(tree_count(n, low + 1));
             }
-            let mut p: u16 = 0; // and for it the least p
-            while p < digits {
+            // and for it the least p.
+            for p in 0..digits {
                 if digit(alpha, p) == 0 {
                     tried += 1;
                     if block_free(flags, n, 0, low, alpha + pow2(p)) {
-                        break 'walk Walk::Found(tree_member(n, 0, low, alpha, p), tried);
+                        return Walk::Found(tree_member(n, 0, low, alpha, p), tried);
                     }
                 }
-                p += 1;
             }
         } else {
             tried += zero_digits(alpha, digits, 0);
         }
-        alpha += 1;
     }
+    Walk::NoneFree(tried)
 }
 
 // Tree: the lowest k - 1 bits are stars and one other is, at p. At k = 0 it is buddy's.
@@ -355,19 +345,15 @@ fn row_walk(
     let digits = n - low;
     let l = low - d;
     let mut tried = before;
-    let mut p: u16 = 1;
-    'walk: loop {
-        if digits <= p {
-            break 'walk Walk::NoneFree(tried);
-        }
+    for p in 1..digits {
         if digit(alpha, p) == 0 {
             tried += 1;
             if runs::block_at(levels, n, d, l, alpha + pow2(p)) {
-                break 'walk Walk::Found(tree_member(n, d, l, alpha, p), tried);
+                return Walk::Found(tree_member(n, d, l, alpha, p), tried);
             }
         }
-        p += 1;
     }
+    Walk::NoneFree(tried)
 }
 
 // Whether the row of α and d may have a free member: the mask has d, and the block of α is free. Its lowest label is looked at first.
@@ -410,20 +396,16 @@ fn further_walk(
 {
     let zeros = zero_digits(alpha, n - low - 1, 1);
     let mut tried = before;
-    let mut d: u16 = 1; // by d from 1
-    'walk: loop {
-        if low < d {
-            break 'walk Walk::NoneFree(tried);
-        }
+    for d in 1..low + 1 {
         if may_have(flags, levels, mask, n, d, low, alpha) {
             let row = row_walk(flags, levels, n, d, low, alpha, tried); // by p from 1
             let Walk::NoneFree(_) = row else {
-                break 'walk row;
+                return row;
             };
         }
         tried += zeros;
-        d += 1;
     }
+    Walk::NoneFree(tried)
 }
 
 // How many members extended has beyond the tree's.
@@ -463,26 +445,21 @@ fn more_walk(flags: &[u8; 1024], n: u16, low: u16, before: u16) -> Walk
     }
     let mut levels = [0; 2048];
     let mut mask = runs::fill_levels(flags, n, low, &mut levels);
-    let alphas = pow2(n - low);
     let mut tried = before;
-    let mut alpha: u16 = 0; // by α
-    'walk: loop {
-        if alphas <= alpha {
-            break 'walk Walk::NoneFree(tried);
-        }
-        if mask == 0 {
-            break 'walk none;
-        }
-        let rows = further_walk(flags, &levels, n, low, mask, alpha, tried);
-        let Walk::NoneFree(t) = rows else {
-            break 'walk rows;
-        };
-        tried = t;
-        alpha += 1;
+    for alpha in 0..pow2(n - low) {
         if alpha == MANY {
             mask = looked(flags, n, low, mask);
         }
+        if mask == 0 {
+            return none;
+        }
+        let rows = further_walk(flags, &levels, n, low, mask, alpha, tried);
+        let Walk::NoneFree(t) = rows else {
+            return rows;
+        };
+        tried = t;
     }
+    Walk::NoneFree(tried)
 }
 
 // Extended: "First the tree's members", then the others, counted on.

@@ -1,10 +1,7 @@
 -- `walks::looked` meets its contract. Assumes nothing.
-use Prim.Native.Nat.{ℕ, ◌-◌}
 use mathlib.Core.Logic.{⊎_elim}
-use mathlib.Core.Path.{◌≡◌, sym, ◌∙◌}
 use native.Mathlib.Omega.{arith}
 use borrow.Author.Rules.{rules}
-use Rattle.hypercube.specs.Bits.{bit}
 use Rattle.hypercube.proofs.Bits.{bit_cases, bit-and}
 use Rattle.walks.proofs.looked.Statement.{statement}
 use Rattle.walks.proofs.looked.Tie as tie

@@ -1,7 +1,7 @@
 -- `walks::may_have` meets its contract. Assumes nothing.
 use Prim.Native.Nat.{◌-◌, ◌*◌, ◌^◌, ◌<◌}
 use mathlib.Core.Path.{◌≡◌, sym, ap, ◌∙◌}
-use mathlib.Core.Bool.{Bool, true, false, ◌&&◌, and-false}
+use mathlib.Core.Bool.{Bool, false, ◌&&◌, and-false}
 use native.Mathlib.Omega.{arith}
 use borrow.Author.Rules.{rules}
 use borrow.Author.Tests.{eq-eqb, ne_eqb, not-true}
@@ -62,7 +62,8 @@ returns_2 c =
     let a = c.args in
     let on : bit a.mask a.d ≡ 1 = sym c.digit.ensures ∙ c.if-digit-eq1.true in
     c.block_at.ensures
-    ∙ block_run (flagged a.flags.now) a.n a.d (a.low - a.d) a.alpha a.levels.now (omega arith) (omega arith) (digits c.before.before.before.before.before.before)
+    ∙ block_run (flagged a.flags.now) a.n a.d (a.low - a.d) a.alpha a.levels.now (omega arith) (omega arith)
+    (digits c.before.before.before.before.before.before)
     (c.requires.1 a.d (omega arith) (omega arith) on)
     ∙ rw (eq-eqb _ 1 on)
 

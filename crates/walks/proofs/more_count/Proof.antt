@@ -1,11 +1,11 @@
 -- `walks::more_count` meets its contract. Assumes nothing.
 use Prim.Native.Nat.{ℕ, suc, ◌-◌, ◌*◌, ◌^◌, ◌≤◌}
-use mathlib.Core.Path.{◌≡◌, sym, ap, ◌∙◌}
+use mathlib.Core.Path.{◌≡◌, sym, ◌∙◌}
 use native.Mathlib.Nat.{mul-le-mul}
 use native.Mathlib.Omega.{arith}
 use borrow.Author.Rules.{rules}
 use lib.ListN.{length, length-append}
-use Rattle.hypercube.specs.Families.{tree, more, extended}
+use Rattle.hypercube.specs.Families.{tree, more}
 use Rattle.hypercube.proofs.Counts.{more_count}
 use Rattle.walks.proofs.Trees.{extended_few}
 use Rattle.walks.proofs.more_count.Statement.{statement}
