@@ -18,9 +18,13 @@ use Rattle.frame_log.specs.declared.Next.TheVariants.{Frame}
 use Rattle.frame_log.specs.declared.Step.{Step}
 use Rattle.frame_log.specs.declared.Step.TheVariants.{Line, Last, End}
 use Rattle.frame_log.specs.Next.{next_of}
-use Rattle.frame_log.specs.Frames.{first_number, first_record, told, later_outcome, later_record, zeros, Later}
+use Rattle.frame_log.specs.Frames.{First, told, later_outcome, later_record, zeros, Later}
 use Rattle.frame_log.specs.Steps.{on_frame, on_record, OnFrame, step_by, record_by, step_of, step_record, Stepped}
+use Rattle.std.specs.Prelude.{Ok, Err}
+use Rattle.hypercube.specs.declared.Refusal.{Refusal}
+use Rattle.hypercube.specs.Refusals.{refusal_number}
 use Rattle.frame_log.proofs.Nexts.{framed}
+use Rattle.frame_log.proofs.Firsts.{some_number}
 
 -- ---- the outcome that a number and a reply say
 
@@ -44,13 +48,13 @@ unfolding later_outcome later_record
 later_told r f r' p' m o c e = record { outcome = rw (e, c.returned, c.reply); «record» = c.«record» }
 
 module _ (r f : List ℕ) (c : Cursor) where
-  pub first_refused : (m : ℕ) (r' : List ℕ) → m ≢ 0 → m ≡ first_number r f → r' ≡ first_record r f → OnFrame 0 r f c (Last (Refused m 0)) r'
+  pub first_refused : (e : Refusal) (o : Outcome) (r' : List ℕ) → o ≡ Refused (refusal_number e) 0 → First r f (Err e) r' → OnFrame 0 r f c (Last o) r'
   unfolding on_frame on_record
-  first_refused m r' z e q = record { answered = rw (← e, ne_eqb m 0 z); «record» = q }
+  first_refused e o r' q h = record { answered = rw (q, ← h.0, ne_eqb (refusal_number e) 0 (some_number e)); «record» = h.1 }
 
-  pub first_set : (n m : ℕ) (r' : List ℕ) → m ≡ 0 → m ≡ first_number r f → r' ≡ first_record r f → n ≡ word f 4 → OnFrame 0 r f c (Line (Setup n) c) r'
+  pub first_set : (n : ℕ) (r' : List ℕ) → n ≡ word f 4 → First r f (Ok tt) r' → OnFrame 0 r f c (Line (Setup n) c) r'
   unfolding on_frame on_record
-  first_set n m r' z e q w = record { answered = rw (← e, eq-eqb m 0 z, w); «record» = q }
+  first_set n r' w h = record { answered = rw (← h.0, w); «record» = h.1 }
 
   pub later_line : (lines : ℕ) (o : Outcome) (r' : List ℕ) → lines ≢ 0 → Later r f o r' → OnFrame lines r f c (Line o c) r'
   unfolding on_frame on_record

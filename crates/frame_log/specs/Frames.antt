@@ -1,9 +1,11 @@
 -- The outcome of a frame, and the record after it. Document 01, "Log program".
-use Rattle.std.specs.Prelude.{ℕ, ◌≡◌, cond, not, ◌||◌, List, eqb, ltb, length, replicate}
+use Rattle.std.specs.Prelude.{ℕ, ◌≡◌, cond, not, ◌||◌, List, eqb, ltb, length, replicate, Result, Ok, Err}
 use Rattle.hypercube.specs.Words.{word}
 use Rattle.hypercube.specs.Replies.{heard}
 use Rattle.tally.specs.declared.Outcome.{Outcome}
 use Rattle.tally.specs.declared.Outcome.TheVariants as outcome
+use Rattle.hypercube.specs.declared.Refusal.{Refusal}
+use Rattle.hypercube.specs.Refusals.{refusal_number}
 use Rattle.hypercube.specs.declared.Reply.{Reply}
 use Rattle.hypercube.specs.declared.Reply.TheVariants.{Granted, Refused, Done}
 use Rattle.cube.specs.Called.{setup_number, setup_record, call_number, call_record, call_reply}
@@ -35,9 +37,14 @@ later_outcome r f = told (heard (call_number r f zeros) (call_reply r f zeros))
 unfoldable pub later_record : List ℕ → List ℕ → List ℕ
 later_record r f = call_record r f zeros
 
+-- 0 where it is set up, or the number of its refusal
+abbrev pub number_of : Result (Unit {0}) Refusal → ℕ
+number_of (Ok u) = 0
+number_of (Err e) = refusal_number e
+
 -- the contracts: the number or the outcome, and the record's bytes afterwards
-abbrev pub First : List ℕ → List ℕ → ℕ → List ℕ → Type 0
-First r f m r' = (m ≡ first_number r f) × (r' ≡ first_record r f)
+abbrev pub First : List ℕ → List ℕ → Result (Unit {0}) Refusal → List ℕ → Type 0
+First r f t r' = (number_of t ≡ first_number r f) × (r' ≡ first_record r f)
 
 pub record Later (r f : List ℕ) (told : Outcome) (r' : List ℕ) : Type 0 where
   pub outcome : told ≡ later_outcome r f

@@ -2,12 +2,15 @@
 #![tactic(auto)]
 
 ghost use Rattle.std.specs.Prelude.{◌≡◌, ◌≢◌, cond, length, drop};
+ghost use Rattle.tally.specs.declared.Outcome.TheVariants.{Refused};
+ghost use Rattle.hypercube.specs.Refusals.{refusal_number};
 ghost use Rattle.frame_log.specs.declared.Next.TheVariants.{Broken, More};
 ghost use Rattle.frame_log.specs.Next.{next_of};
 ghost use Rattle.hypercube.specs.Replies.{heard};
 ghost use Rattle.frame_log.specs.Frames.{First, Later, told};
 ghost use Rattle.frame_log.specs.Steps.{OnFrame, Stepped};
 
+use hypercube::Refusal;
 use tally::Outcome;
 
 // The place in a window up to which frames were read.
@@ -66,7 +69,7 @@ pub fn next_frame(window: &[u8], c: Cursor, last: bool) -> Next
     if left < 2 {
         return unfinished(last);
     }
-    let size = record::word(window, at) as usize;
+    let size = usize::from(record::word(window, at));
     if size < 4 {
         return Next::Broken;
     }
@@ -76,24 +79,35 @@ pub fn next_frame(window: &[u8], c: Cursor, last: bool) -> Next
     Next::Frame(Cursor { at: at + size })
 }
 
-// Set-up by a first frame: 0, or the number of its refusal.
-fn set_up(rec: &mut [u8], frame: &[u8]) -> u32
+// Set-up by a first frame.
+fn set_up(rec: &mut [u8], frame: &[u8]) -> Result<(), Refusal>
     ensures { First rec.old frame.now result rec.new }
 {
     let len = frame.len();
-    if len < 4 {
-        return 3;
-    }
-    if record::word(frame, 0) as usize != len {
-        return 3;
+    if len < 4 || usize::from(record::word(frame, 0)) != len {
+        return Err(Refusal::WrongLength);
     }
     if record::word(frame, 2) != SETUP {
-        return 4;
+        return Err(Refusal::UnknownKind);
     }
     if len != 6 {
-        return 5;
+        return Err(Refusal::WrongSize);
     }
-    cube::cube_setup(rec, record::word(frame, 4) as u32)
+    match cube::cube_setup(rec, u32::from(record::word(frame, 4))) {
+        0 => Ok(()),
+        1 => Err(Refusal::NotARecord),
+        _ => Err(Refusal::LargeDimension),
+    }
+}
+
+// A refusal that comes before anything is tried.
+fn refused(r: Refusal) -> Outcome
+    ensures { result ≡ Refused (refusal_number r) 0 }
+{
+    Outcome::Refused {
+        number: u32::from(r.number()),
+        tried: 0,
+    }
 }
 
 // The outcome of a call, from the number that it returned and the reply. There is room for it, so the number isn't 2, which has no reply.
@@ -131,11 +145,10 @@ pub fn later(rec: &mut [u8], frame: &[u8]) -> Outcome
 fn on_first(rec: &mut [u8], frame: &[u8], end: Cursor) -> Step
     ensures { OnFrame 0 rec.old frame.now end result rec.new }
 {
-    let number = set_up(rec, frame);
-    if number != 0 {
-        return Step::Last(Outcome::Refused { number, tried: 0 });
+    match set_up(rec, frame) {
+        Ok(()) => Step::Line(Outcome::Setup(record::word(frame, 4)), end),
+        Err(refusal) => Step::Last(refused(refusal)),
     }
-    Step::Line(Outcome::Setup(record::word(frame, 4)), end)
 }
 
 // A frame that ends where the cursor stands, with `lines` lines before it.
@@ -164,9 +177,6 @@ pub fn take_step(rec: &mut [u8], window: &[u8], c: Cursor, last: bool, lines: u3
         }
         Next::More => Step::More,
         Next::End => Step::End,
-        Next::Broken => Step::Last(Outcome::Refused {
-            number: 3,
-            tried: 0,
-        }),
+        Next::Broken => Step::Last(refused(Refusal::WrongLength)),
     }
 }
