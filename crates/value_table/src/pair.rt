@@ -24,36 +24,11 @@ fn by_values(s: State, c: Call) -> Step {
     }
 }
 
-fn send(rec: &mut [u8], frame: &[u8]) -> Given {
-    let mut reply = [238; 12];
-    let number = cube::cube_call(rec, frame, &mut reply);
-    Given { number, reply }
-}
-
-// A frame of six bytes: its kind and one field.
-fn six(rec: &mut [u8], kind: u16, field: u16) -> Given {
-    let [low, high] = kind.to_le_bytes();
-    let [first, second] = field.to_le_bytes();
-    send(rec, &[6, 0, low, high, first, second])
-}
-
-// A frame of eight bytes, a request's or a growth's: its kind and the fields.
-fn eight(rec: &mut [u8], kind: u16, job: u16, k: u8, strategy: u8) -> Given {
-    let [low, high] = kind.to_le_bytes();
-    let [first, second] = job.to_le_bytes();
-    send(rec, &[8, 0, low, high, first, second, k, strategy])
-}
-
 fn by_record(rec: &mut [u8], c: Call) -> Given {
-    match c {
-        Call::Good(x) => six(rec, 0x0101, x.0),
-        Call::Fault(x) => six(rec, 0x0102, x.0),
-        Call::Repaired(x) => six(rec, 0x0103, x.0),
-        Call::Relabel => send(rec, b"\x04\x00\x03\x02"),
-        Call::Request { job, k, strategy } => eight(rec, 0x0201, job, k, strategy),
-        Call::Release(job) => six(rec, 0x0202, job),
-        Call::Grow { job, k, strategy } => eight(rec, 0x0204, job, k, strategy),
-    }
+    let frame = call_frames::frame_of(c);
+    let mut reply = [238; 12];
+    let number = cube::cube_call(rec, frame.as_bytes(), &mut reply);
+    Given { number, reply }
 }
 
 fn show_call(rt: &impl Print, c: Call) -> io::Result<()> {
@@ -115,6 +90,6 @@ pub(crate) fn called(
 // A node reported good on both, with no line.
 pub(crate) fn reported(s: State, rec: &mut [u8], x: Node) -> State {
     let step = allocator::good(s, x);
-    six(rec, 0x0101, x.0);
+    by_record(rec, Call::Good(x));
     step.state
 }
