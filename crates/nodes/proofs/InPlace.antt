@@ -4,23 +4,24 @@ use mathlib.Core.Path.{◌≡◌, refl, sym, ap, ◌∙◌}
 use mathlib.Core.Logic.{inl, inr}
 use mathlib.Core.List.{List, [], ◌++◌}
 use native.Mathlib.Omega.{arith}
-use lib.ListN.{length, set}
+use lib.ListN.{length, set, drop}
+use borrow.Rule.Slice.PartMut.{put_mid}
+use Rattle.std.proofs.lemmas.List.{drop_at}
 use Rattle.hypercube.specs.Words.{words}
 use Rattle.state.specs.declared.State.{State}
 use Rattle.state.specs.States.{with_condition, with_map, with_holders, with_stars}
 use Rattle.state.proofs.Valid.{Sized}
 use Rattle.record.specs.Layout.{map_at, holders_at, conditions_at, stars_at, encode}
 use Rattle.record.proofs.Between.{set_between, set-word_between}
-use Rattle.record.proofs.Places.{first, head, to_conditions, to_stars, after_holders, after_map, by_map, by_holders, by_conditions, by_stars}
+use Rattle.record.proofs.Places.{head, to_conditions, to_stars, after_holders, after_map, by_map, by_holders, by_conditions, by_stars}
 use Rattle.record.proofs.Places.{to_holders, to_conditions_lem, to_stars_lem}
 use Rattle.nodes.specs.Words.{Words, words_of, with_words}
 
 module _ (s : State) (z : Sized s) where
-  pub set-map-entry : (i v : ℕ) → i < 10 → set (encode s) (map_at + i) v ≡ encode (with_map s (set s.map i v))
-  set-map-entry i v h =
-      ap (λ (l : List ℕ). set l (map_at + i) v) (by_map s s.map)
-      ∙ set_between (first s) (after_map s) map_at refl s.map i (map_at + i) v (omega (arith, z.directions)) refl
-      ∙ sym (by_map s (set s.map i v))
+  pub set_map_lem : (ds : List ℕ) → put_mid map_at 10 (encode s) ds ≡ encode (with_map s ds)
+  set_map_lem ds =
+      let e : drop 10 (s.map ++ after_map s) ≡ after_map s = drop_at s.map (after_map s) 10 z.directions in
+      rw (by_map s s.map, e) (sym (by_map s ds))
 
   pub set_condition_entry : (x v : ℕ) → x < 1024 → set (encode s) (conditions_at + x) v ≡ encode (with_condition s x v)
   set_condition_entry x v h =

@@ -1,4 +1,4 @@
--- A part of a state that may be put anew, and its place in a record: the map, and the parts with a word for each node. Assumes nothing.
+-- A part of a state that may be put anew, and its place in a record: the parts with a word for each node. Assumes nothing.
 use Prim.Native.Nat.{ℕ, ◌+◌, ◌*◌, ◌<◌, ◌≤◌}
 use mathlib.Core.Path.{◌≡◌, refl, sym, ap, ◌∙◌}
 use mathlib.Core.Logic.{inl, inr}
@@ -9,7 +9,7 @@ use lib.Dec.{eqb}
 use lib.ListN.{length, get_or}
 use Rattle.hypercube.specs.Words.{word}
 use Rattle.state.specs.declared.State.{State}
-use Rattle.state.specs.States.{with_map, with_holders, with_stars}
+use Rattle.state.specs.States.{with_holders, with_stars}
 use Rattle.state.proofs.Valid.{Sized}
 use Rattle.record.specs.Layout.{holders_at, record_size, encode, decode, Encoded}
 use Rattle.record.proofs.Round.{decode_holder, decode_star, decode-encode}
@@ -23,16 +23,6 @@ pub record Part : Type 0 where
   pub kept : (s : State) → put s (get s) ≡ s
   pub again : (s : State) (l m : List ℕ) → put (put s l) m ≡ put s m
   pub sized : (s : State) (l : List ℕ) → Sized s → length l ≡ length (get s) → Sized (put s l)
-
-abbrev pub the_map : Part
-the_map = record {
-  get = λ s. s.map;
-  put = with_map;
-  got = λ s l. refl;
-  kept = λ s. refl;
-  again = λ s l m. refl;
-  sized = λ s l z e. record { directions = e ∙ z.directions; holders = z.holders; conditions = z.conditions; stars = z.stars };
-}
 
 -- the laws of a part with a word for each node, the holders where b, else the star bits
 module _ (s : State) (l : List ℕ) where

@@ -17,19 +17,12 @@ use hypercube::Node;
 use labels::Relabelled;
 use record::{all_zero, word};
 
-// A node's number, as a place among the 1024.
-fn index(x: Node) -> usize
-    ensures { result ≡ x.0 }
-{
-    x.0 as usize
-}
-
 // Node x's holder, read in place.
 pub fn holder_at(bytes: &[u8], x: Node) -> u16
     requires { (length bytes.now ≡ record_size) × (x.0 < 1024) }
     ensures { result ≡ get_or (decode bytes.now).holders x.0 0 }
 {
-    word(bytes, record::HOLDERS + 2 * index(x))
+    word(bytes, record::HOLDERS + 2 * usize::from(x.0))
 }
 
 // Node x's condition, read in place.
@@ -37,7 +30,7 @@ pub fn condition_at(bytes: &[u8], x: Node) -> u8
     requires { (length bytes.now ≡ record_size) × (x.0 < 1024) }
     ensures { result ≡ get_or (decode bytes.now).conditions x.0 0 }
 {
-    bytes[record::CONDITIONS + index(x)]
+    bytes[record::CONDITIONS + usize::from(x.0)]
 }
 
 // Node x's condition, set in place: one byte is stored.
@@ -45,8 +38,8 @@ pub fn set_condition(bytes: &mut [u8], x: Node, condition: u8)
     requires { (length bytes.old ≡ record_size) × ((x.0 < 1024) × (head_right bytes.old ≡ true)) }
     ensures { bytes.new ≡ encode (with_condition (decode bytes.old) x.0 condition) }
 {
-    let i = index(x);
-    bytes[record::CONDITIONS + i] = condition;
+    let at = record::CONDITIONS + usize::from(x.0);
+    bytes[at] = condition;
 }
 
 // Node x's word of the part from place `at` on, its holder or its star bits, set in place.
@@ -58,25 +51,13 @@ fn set_word(bytes: &mut [u8], at: usize, x: usize, v: u16)
     bytes[at + 2 * x + 1] = (v / 256) as u8;
 }
 
-// Entry i of the map, set in place.
-fn set_direction(bytes: &mut [u8], i: usize, direction: u8)
-    requires { Encoded bytes.old × (i < 10) }
-    ensures { bytes.new ≡ encode (with_map (decode bytes.old) (set (decode bytes.old).map i direction)) }
-{
-    bytes[record::MAP + i] = direction;
-}
-
 // The map, set in place.
 pub fn set_map(bytes: &mut [u8], map: &[u8; 10])
     requires bytes_len { (length bytes.old ≡ record_size) × (head_right bytes.old ≡ true) }
     requires map_len { length map.now ≡ 10 }
     ensures { bytes.new ≡ encode (with_map (decode bytes.old) map.now) }
 {
-    let mut d = 0;
-    while d < 10 {
-        set_direction(bytes, d, map[d]);
-        d += 1;
-    }
+    bytes[record::MAP..record::MAP + 10].copy_from_slice(map);
 }
 
 // The relabelling over the conditions that a record says.
@@ -102,13 +83,11 @@ pub fn count_held(bytes: &[u8], size: usize, job: u16) -> u16
     requires { (length bytes.now ≡ record_size) × (size ≤ 1024) }
     ensures { result ≡ count_below size (λ x. eqb (get_or (decode bytes.now).holders x 0) job) }
 {
-    let mut count: u16 = 0;
-    let mut x = 0;
-    while x < size {
+    let mut count = 0;
+    for x in 0..size {
         if word(bytes, record::HOLDERS + 2 * x) == job {
             count += 1;
         }
-        x += 1;
     }
     count
 }
@@ -132,12 +111,10 @@ fn give_words(bytes: &mut [u8], at: usize, low: Node, stars: u16, v: u16)
         (given (words_of at (decode bytes.old)) (vertices width stars low.0) v)) }
 {
     let first = low.0;
-    let end = (first + stars) as usize + 1;
-    let mut y = first as usize;
-    while y < end {
+    let end = usize::from(first + stars) + 1;
+    for y in usize::from(first)..end {
         let w = after_grant(y as u16, first, stars, v, word(bytes, at + 2 * y));
         set_word(bytes, at, y, w);
-        y += 1;
     }
 }
 
@@ -166,15 +143,13 @@ fn clear_words(bytes: &mut [u8], at: usize, size: usize, job: u16)
     ensures { bytes.new ≡ encode (with_words at (decode bytes.old)
         (cleared (words_of at (decode bytes.old)) (decode bytes.old).holders job)) }
 {
-    let mut x = 0;
-    while x < size {
+    for x in 0..size {
         let w = without(
             word(bytes, record::HOLDERS + 2 * x),
             job,
             word(bytes, at + 2 * x),
         );
         set_word(bytes, at, x, w);
-        x += 1;
     }
 }
 
@@ -195,13 +170,11 @@ pub fn flags_by_node(bytes: &[u8], size: usize, job: u16, flags: &mut [u8; 1024]
     requires empty_from { EmptyFrom flags.old size }
     ensures { flags.new ≡ by_node size (flag (decode bytes.now).conditions (decode bytes.now).holders job) }
 {
-    let mut x = 0;
-    while x < size {
+    for x in 0..size {
         flags[x] = labels::flag_of(
             bytes[record::CONDITIONS + x],
             word(bytes, record::HOLDERS + 2 * x),
             job,
         );
-        x += 1;
     }
 }

@@ -1,16 +1,14 @@
 -- `nodes::give` meets its contract: the holders first, then the star bits. Assumes nothing.
-use Prim.Native.Nat.{ℕ}
-use mathlib.Core.Path.{◌≡◌, refl, ap, ◌∙◌}
+use mathlib.Core.Path.{refl, ap, ◌∙◌}
 use mathlib.Core.Logic.{inl, inr}
-use mathlib.Core.List.{List}
 use borrow.Author.Rules.{rules}
 use native.Mathlib.Omega.{arith}
 use Rattle.hypercube.specs.Bits.{width}
 use Rattle.hypercube.specs.Subcubes.{vertices}
 use Rattle.hypercube.proofs.Lists.{length_of}
 use Rattle.state.specs.declared.State.{State}
-use Rattle.state.specs.States.{with_stars, with_holders, given}
-use Rattle.record.specs.Layout.{holders_at, encode, decode}
+use Rattle.state.specs.States.{with_stars, given}
+use Rattle.record.specs.Layout.{holders_at, encode}
 use Rattle.record.proofs.Round.{encode-decode, sized-decode}
 use Rattle.nodes.proofs.Parts.{decode-words, words_encoded}
 use Rattle.nodes.proofs.give.Statement.{statement}
