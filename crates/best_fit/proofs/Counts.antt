@@ -1,5 +1,5 @@
 -- How many numbers below N pass a test, and the first that does, as loops find them. Assumes nothing.
-use Prim.Native.Nat.{ℕ, zero, suc, ◌+◌, ◌*◌, ◌<◌, ◌≤◌}
+use Prim.Native.Nat.{ℕ, zero, suc, ◌+◌, ◌*◌, ◌<◌, ◌≤◌, min}
 use mathlib.Core.Logic.{◌≢◌}
 use mathlib.Core.Path.{◌≡◌, refl, ap, ap₂, ◌∙◌}
 use mathlib.Core.Bool.{Bool, true, false, not, cond, ◌&&◌}
@@ -64,9 +64,13 @@ pub first_none : (test : ℕ → Bool) → first_below 0 test ≡ 512
 unfolding first_below
 first_none test = refl
 
-pub first_more : (test : ℕ → Bool) (i : ℕ) → lesser (first_below i test) (placed (test i) i) ≡ first_below (i + 1) test
+-- the lesser of two, as `min` gives it
+least : (a b : ℕ) → min a b ≡ lesser a b
+least a b = cases (ltb a b) (λ t. rw t (omega (arith, ltb-true a b t))) (λ t. rw t (omega (arith, ltb-false a b t)))
+
+pub first_more : (test : ℕ → Bool) (i : ℕ) → min (first_below i test) (placed (test i) i) ≡ first_below (i + 1) test
 unfolding first_below
-first_more test i = rw (add-one i)
+first_more test i = rw (add-one i) (least (first_below i test) (placed (test i) i))
 
 pub first_same : (N : ℕ) (p q : ℕ → Bool) → ((x : ℕ) → x < N → p x ≡ q x) → first_below N p ≡ first_below N q
 unfolding first_below

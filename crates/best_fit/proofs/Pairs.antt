@@ -10,6 +10,7 @@ use Rattle.hypercube.specs.Levels.{joined, lone, free_half}
 use Rattle.runs.specs.Flagged.{flagged}
 use Rattle.runs.proofs.Levels.{flag_of_lem}
 use Rattle.best_fit.specs.Entries.{Entries, ZeroOne}
+use Rattle.best_fit.specs.Seen.{placed}
 use Rattle.best_fit.proofs.Counts.{one_le}
 
 -- an entry, read as a flag, tells what it stands for
@@ -42,6 +43,19 @@ pair_small a b = omega (arith, one_le a, one_le b)
 pub pair_at : (N x : ℕ) (ls : List ℕ) → ZeroOne (2 * N) ls → x < N
     → get_or ls (2 * x) 0 + 256 * get_or ls (2 * x + 1) 0 ≡ pair_of (flagged ls (2 * x)) (flagged ls (2 * x + 1))
 pair_at N x ls Z l = ap₂ (λ (a b : ℕ). a + 256 * b) (Z (2 * x) (omega arith)) (Z (2 * x + 1) (omega arith))
+
+-- what is computed of it, v: the entry that the level above gets
+pub entry_at : (N x : ℕ) (ls : List ℕ) (v : ℕ) → ZeroOne (2 * N) ls → x < N → v ≡ get_or ls (2 * x) 0 + 256 * get_or ls (2 * x + 1) 0
+    → (v + 255) / 512 ≡ cond (joined (flagged ls) x) 1 0
+entry_at N x ls v Z l e =
+    ap (λ (z : ℕ). (z + 255) / 512) (e ∙ pair_at N x ls Z l) ∙ pair_both (flagged ls (2 * x)) (flagged ls (2 * x + 1))
+
+-- and its place
+pub place_at : (N x : ℕ) (ls : List ℕ) (v : ℕ) {r : ℕ} → ZeroOne (2 * N) ls → x < N → v ≡ get_or ls (2 * x) 0 + 256 * get_or ls (2 * x + 1) 0
+    → r ≡ placed (leb 1 v && leb v 256) x → r ≡ placed (lone (flagged ls) x) x
+place_at N x ls v Z l e p =
+    p ∙ ap (λ (z : ℕ). placed (leb 1 z && leb z 256) x) (e ∙ pair_at N x ls Z l)
+    ∙ ap (λ (t : Bool). placed t x) (pair-lone (flagged ls (2 * x)) (flagged ls (2 * x + 1)))
 
 -- what goes by a pair goes by its two halves
 module _ (p q : ℕ → Bool) (N : ℕ) (h : (x : ℕ) → x < 2 * N → p x ≡ q x) where

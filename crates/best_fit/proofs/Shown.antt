@@ -5,6 +5,9 @@ use mathlib.Core.Path.{◌≡◌, refl, sym, ap, ap₂, ◌∙◌, fun_ext, subs
 use mathlib.Core.Bool.{Bool, true, false, not, cond, ◌&&◌, false≢true}
 use mathlib.Core.List.{List}
 use mathlib.Core.Option.{none, some}
+use Rattle.std.specs.declared.option.Option.{Option}
+use Rattle.std.specs.declared.option.Option.TheVariants.{Some, None}
+use Rattle.std.specs.Option.{is_none, option_or}
 use native.Mathlib.Decide.{ℕ_discrete}
 use native.Mathlib.Nat.{pow-succ', mul-le-mul_right}
 use native.Mathlib.Omega.{arith}
@@ -95,15 +98,19 @@ and_both : (a b : Bool) → a && b ≡ true → (a ≡ true) × (b ≡ true)
 and_both true b e = (refl, e)
 and_both false b e = absurd (false≢true e)
 
-taking-true : (k d : ℕ) (t : Bool) (c : ℕ) → taking k d t c ≡ true → (t ≡ false) × (k ≤ d) × (c ≢ 0)
-taking-true k d t c e =
-    let p = and_both (not t && leb k d) (not (eqb c 0)) e in
-    let q = and_both (not t) (leb k d) p.0 in
-    (not-true t q.0, leb-true k d q.1, eqb-false c 0 (not-true (eqb c 0) p.1))
+none_yet : (o : Option ℕ) → is_none o ≡ true → o ≡ None
+none_yet None e = refl
+none_yet (Some low) e = absurd (false≢true e)
 
-taking-false : (k d : ℕ) (t : Bool) (c : ℕ) → taking k d t c ≡ false → t ≡ false → k ≤ d → c ≡ 0
-taking-false k d true c e z h = absurd (false≢true (sym z))
-taking-false k d false c e z h = eqb-true c 0 (not-false (eqb c 0) (ap (λ (b : Bool). b && not (eqb c 0)) (sym (le-leb k d h)) ∙ e))
+taking-true : (k d : ℕ) (o : Option ℕ) (c : ℕ) → taking k d o c ≡ true → (o ≡ None) × (k ≤ d) × (c ≢ 0)
+taking-true k d o c e =
+    let p = and_both (is_none o && leb k d) (not (eqb c 0)) e in
+    let q = and_both (is_none o) (leb k d) p.0 in
+    (none_yet o q.0, leb-true k d q.1, eqb-false c 0 (not-true (eqb c 0) p.1))
+
+taking-false : (k d : ℕ) (o : Option ℕ) (c : ℕ) → taking k d o c ≡ false → o ≡ None → k ≤ d → c ≡ 0
+taking-false k d (Some low) c e z h = cc
+taking-false k d None c e z h = eqb-true c 0 (not-false (eqb c 0) (ap (λ (b : Bool). b && not (eqb c 0)) (sym (le-leb k d h)) ∙ e))
 
 -- the block that is taken has this lowest label
 abbrev Takes : ℕ → ℕ → (ℕ → Bool) → ℕ → Type 0
@@ -112,18 +119,18 @@ Takes n k f low = (m : Subcube) × (smallest k (maximal n f) ≡ some m) × (m.l
 -- the levels below d have shown s
 pub record Shown (n k d : ℕ) (f : ℕ → Bool) (s : Seen) : Type 0 where
   pub count : s.tried + length (maximal (n - d) (level f d)) ≡ length (maximal n f)
-  pub untaken : s.taken ≡ false → NoLone n f k d × (s.low ≡ 0)
-  pub taken : s.taken ≡ true → Takes n k f s.low
+  pub untaken : s.taken ≡ None → NoLone n f k d
+  pub taken : (low : ℕ) → s.taken ≡ Some low → Takes n k f low
 
-pub shown_first : (n k : ℕ) (f : ℕ → Bool) → Shown n k 0 f (record { tried = 0; taken = false; low = 0 })
+pub shown_first : (n k : ℕ) (f : ℕ → Bool) → Shown n k 0 f (record { tried = 0; taken = None })
 unfolding level
 shown_first n k f = record {
   count =
       let z : n - 0 ≡ n = omega arith in
       let same : length (maximal (n - 0) (level f 0)) ≡ length (maximal n f) = ap (λ (v : ℕ). length (maximal v f)) z in
       omega (arith, same);
-  untaken = λ e. (λ e β p l. absurd (omega arith), refl);
-  taken = λ e. absurd (false≢true e);
+  untaken = λ u e β p l. absurd (omega arith);
+  taken = λ low e. cc;
 }
 
 -- what is tried is small
@@ -177,46 +184,30 @@ module _ (n k d : ℕ) (f g : ℕ → Bool) (s : Seen) (w : n ≤ width) (h : d 
       let inside : β < N = F.within b in
       let same_pairs : n - d - 1 ≡ n - suc d = omega arith in
       let block : smallest k (maximal n f) ≡ some (buddy_member d (free_half (level f d) β)) =
-      best_at n k d β f w T.1 h (S.untaken T.0).0 (subst (λ (z : ℕ). β < 2 ^ z) same_pairs inside) (sym (same_lone β inside) ∙ F.passes b)
+      best_at n k d β f w T.1 h (S.untaken T.0) (subst (λ (z : ℕ). β < 2 ^ z) same_pairs inside) (sym (same_lone β inside) ∙ F.passes b)
       (λ γ l. sym (same_lone γ (omega arith)) ∙ F.before γ (omega arith) l) in
       record {
         count = counted;
-        untaken = λ e. absurd (false≢true (sym e));
-        taken = λ e. (
-          buddy_member d (free_half (level f d) β),
-          block,
-          ap (λ (z : ℕ). z * 2 ^ d) (sym (half_same g (level f d) N same β inside)),
-        );
+        untaken = λ e. cc;
+        taken = λ low e.
+            let lowest : free_half g β * 2 ^ d ≡ low = cc in (
+              buddy_member d (free_half (level f d) β),
+              block,
+              ap (λ (z : ℕ). z * 2 ^ d) (sym (half_same g (level f d) N same β inside)) ∙ lowest,
+            );
       }
   shown_after false t = record {
     count = counted;
-    untaken = λ e. (
-      cases (leb k d) (λ q. none_here (taking-false k d s.taken C t e (leb-true k d q)) (S.untaken e).0)
-          (λ q. none_small (leb-false k d q) (S.untaken e).0),
-      (S.untaken e).1,
-    );
+    untaken = λ e.
+        cases (leb k d) (λ q. none_here (taking-false k d s.taken C t e (leb-true k d q)) (S.untaken e))
+        (λ q. none_small (leb-false k d q) (S.untaken e));
     taken = S.taken;
   }
 
   pub shown_next : Shown n k (d + 1) f (seeing k d N g s)
   shown_next = shown_after (taking k d s.taken C) refl
 
--- ---- what a level adds, as it is computed
-
 module _ (k d N : ℕ) (g : ℕ → Bool) (s : Seen) (alone : ℕ) (e : alone ≡ count_below N (lone g)) where
-  by_count : (t : Bool) → taking k d s.taken alone ≡ t
-      → after_level t (free_half g (first_below N (lone g)) * 2 ^ d) s alone ≡ seeing k d N g s
-  by_count t h =
-      ap₂ (λ (b : Bool) (c : ℕ). after_level b (free_half g (first_below N (lone g)) * 2 ^ d) s c)
-      (sym h ∙ ap (taking k d s.taken) e) e
-
-  pub sees_none : taking k d s.taken alone ≡ false → record { tried = s.tried + alone; taken = s.taken; low = s.low } ≡ seeing k d N g s
-  sees_none = by_count false
-
-  pub sees_block : (low : ℕ) → taking k d s.taken alone ≡ true → low ≡ free_half g (first_below N (lone g)) * 2 ^ d
-      → record { tried = s.tried + alone; taken = true; low = low } ≡ seeing k d N g s
-  sees_block low h l = ap (λ (z : ℕ). after_level true z s alone) l ∙ by_count true h
-
   -- the first lone pair is there
   pub block_place : N ≤ 512 → taking k d s.taken alone ≡ true → (first_below N (lone g) < 512) × (first_below N (lone g) < N)
   block_place small h =
@@ -226,18 +217,15 @@ module _ (k d N : ℕ) (g : ℕ → Bool) (s : Seen) (alone : ℕ) (e : alone �
 -- ---- the answer
 
 module _ (n k : ℕ) (f : ℕ → Bool) where
-  answered : (u : Seen) → u.tried ≡ length (maximal n f) → (u.taken ≡ false → smallest k (maximal n f) ≡ none)
-      → (u.taken ≡ true → Takes n k f u.low) → answering k u.taken u ≡ best_fit n k f
-  answered u e a b = go u.taken refl
-    where
-      go : (t : Bool) → u.taken ≡ t → answering k t u ≡ best_fit n k f
-      go true t =
-          let T = b t in
-          ap₂ (λ (x y : ℕ). Found (subcube x (2 ^ k - 1)) y) (sym T.2) e ∙ ap (part k (length (maximal n f))) (sym T.1)
-      go false t = ap NoneFree e ∙ ap (part k (length (maximal n f))) (sym (a t))
+  answered : (o : Option ℕ) (tried : ℕ) → tried ≡ length (maximal n f) → (o ≡ None → smallest k (maximal n f) ≡ none)
+      → ((low : ℕ) → o ≡ Some low → Takes n k f low) → answering k o tried ≡ best_fit n k f
+  answered (Some low) tried e a b =
+      let T = b low refl in
+      ap₂ (λ (x y : ℕ). Found (subcube x (2 ^ k - 1)) y) (sym T.2) e ∙ ap (part k (length (maximal n f))) (sym T.1)
+  answered None tried e a b = ap NoneFree e ∙ ap (part k (length (maximal n f))) (sym (a refl))
 
   pub shown_answer : (s : Seen) (t : Bool) → n ≤ width → k ≤ n → Shown n k n f s → t ≡ level f n 0
-      → answering k (at_top t s).taken (at_top t s) ≡ best_fit n k f
+      → answering k (at_top t s).taken (at_top t s).tried ≡ best_fit n k f
   shown_answer s t w h S = go t
     where
       total : s.tried + cond (level f n 0) 1 0 ≡ length (maximal n f)
@@ -245,11 +233,16 @@ module _ (n k : ℕ) (f : ℕ → Bool) where
           let z : n - n ≡ 0 = omega arith in
           ap (λ (v : ℕ). s.tried + v) (sym (ap (λ (v : ℕ). length (maximal v (level f n))) z ∙ count_last (level f n))) ∙ S.count
 
-      go : (t : Bool) → t ≡ level f n 0 → answering k (at_top t s).taken (at_top t s) ≡ best_fit n k f
-      go true e = answered (at_top true s) (rw (← e) at total) (λ z. absurd (false≢true (sym z))) (λ z. whole s.taken refl)
-        where
-          whole : (b : Bool) → s.taken ≡ b → Takes n k f s.low
-          whole true b = S.taken b
-          whole false b = (buddy_member n 0, best_top n k f w h (S.untaken b).0 (sym e), omega (arith, (S.untaken b).1))
+      -- where the whole cube is free, a block is taken, the cube at the latest
+      whole : (o : Option ℕ) → s.taken ≡ o → level f n 0 ≡ true → (low : ℕ) → option_or o (Some 0) ≡ Some low → Takes n k f low
+      whole (Some x) b t low e = S.taken low (b ∙ e)
+      whole None b t low e = let zero_is : 0 ≡ low = cc in (buddy_member n 0, best_top n k f w h (S.untaken b) t, omega (arith, zero_is))
+
+      never : (o : Option ℕ) → option_or o (Some 0) ≡ None → smallest k (maximal n f) ≡ none
+      never (Some x) e = cc
+      never None e = cc
+
+      go : (t : Bool) → t ≡ level f n 0 → answering k (at_top t s).taken (at_top t s).tried ≡ best_fit n k f
+      go true e = answered (option_or s.taken (Some 0)) (s.tried + 1) (rw (← e) at total) (never s.taken) (whole s.taken refl (sym e))
       go false e =
-          answered s (omega (arith, rw (← e) at total)) (λ z. best_none n k f w (S.untaken z).0 (sym e)) S.taken
+          answered s.taken s.tried (omega (arith, rw (← e) at total)) (λ z. best_none n k f w (S.untaken z) (sym e)) S.taken

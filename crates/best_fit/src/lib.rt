@@ -8,93 +8,70 @@ ghost use Rattle.hypercube.specs.Levels.{joined, lone, free_half};
 ghost use Rattle.hypercube.specs.BestFit.{best_fit};
 ghost use Rattle.runs.specs.Flagged.{flagged};
 ghost use Rattle.best_fit.specs.Entries.{Laid, Risen, ZeroOne};
-ghost use Rattle.best_fit.specs.Seen.{placed, lesser, first_below, taking, seeing, at_top, answering};
+ghost use Rattle.best_fit.specs.Seen.{placed, first_below, taking, seeing, at_top, answering};
 
 use hypercube::{Label, Subcube, Walk, pow2};
+use runs::indicator;
 
-// What the levels so far have shown: the number of their maximal free blocks; and whether one of them is taken, with its lowest label.
+// What the levels so far have shown: the number of their maximal free blocks; and the lowest label of the one that is taken.
 #[derive(Clone, Copy)]
 struct Seen {
     tried: u16,
-    taken: bool,
-    low: u16,
-}
-
-// 1 for a flag of 1, else 0.
-fn one(flag: u8) -> u8
-    ensures { result ≡ cond (eqb flag 1) 1 0 }
-{
-    if flag == 1 { 1 } else { 0 }
+    taken: Option<u16>,
 }
 
 // Level 0, the flags; and how many are free.
 fn first_level(flags: &[u8; 1024], count: u16, level: &mut [u8; 1024]) -> u16
-    requires { (count ≤ 1024) × (length level.old ≡ 1024) }
+    requires { count ≤ 1024 }
     ensures { Laid (flagged flags.now) count 1024 result level.new }
 {
     let size = count as usize;
     let mut free: u16 = 0;
-    let mut x: usize = 0;
-    while x < size {
-        let entry = one(flags[x]);
+    for x in 0..size {
+        let entry = indicator(flags[x]);
         level[x] = entry;
-        free += entry as u16;
-        x += 1;
+        free += u16::from(entry);
     }
     free
 }
 
 // Two entries as one number, which the compiler then loads at once: 257 where both are 1.
 fn pair(a: u8, b: u8) -> u16
-    requires { (a ≤ 1) × (b ≤ 1) }
     ensures { result ≡ a + 256 * b }
 {
-    (a as u16) + 256 * (b as u16)
+    u16::from_le_bytes([a, b])
 }
 
 // The level above, of so many pairs; and how many of it are free. The quotient is 1 where the pair is 257: a test for 257 would be taken apart into
 // tests of the two entries, each loaded alone.
 fn join(level: &[u8; 1024], count: u16, above: &mut [u8; 512]) -> u16
-    requires { (count ≤ 512) × ZeroOne (2 * count) level.now × (length above.old ≡ 512) }
+    requires { (count ≤ 512) × ZeroOne (2 * count) level.now }
     ensures { Laid (joined (flagged level.now)) count 512 result above.new }
 {
     let size = count as usize;
     let mut free: u16 = 0;
-    let mut x: usize = 0;
-    while x < size {
+    for x in 0..size {
         let entry = (pair(level[2 * x], level[2 * x + 1]) + 255) / 512;
         above[x] = entry as u8;
         free += entry;
-        x += 1;
     }
     free
 }
 
 // The level above takes the place of the level.
 fn rise(above: &[u8; 512], count: u16, level: &mut [u8; 1024])
-    requires { (count ≤ 512) × (length level.old ≡ 1024) }
+    requires { count ≤ 512 }
     ensures { Risen above.now count level.new }
 {
     let size = count as usize;
-    let mut x: usize = 0;
-    while x < size {
-        level[x] = above[x];
-        x += 1;
-    }
+    level[..size].copy_from_slice(&above[..size]);
 }
 
-// The place of a pair with one free half alone; of another, 512, which is beyond all.
+// The place of a pair with one free half alone; of another, 512, which is beyond all: the least of numbers is vector code, that of `Option`s isn't.
 fn place(halves: u16, x: u16) -> u16
     ensures { result ≡ placed (leb 1 halves && leb halves 256) x }
 {
-    if 1 <= halves && halves <= 256 { x } else { 512 }
-}
-
-// The lesser of two places.
-fn least(a: u16, b: u16) -> u16
-    ensures { result ≡ lesser a b }
-{
-    if a < b { a } else { b }
+    if (1..=256).contains(&halves) { x } else { 512 }
 }
 
 // The first of so many pairs that has one free half alone.
@@ -103,11 +80,9 @@ fn first_lone(level: &[u8; 1024], count: u16) -> u16
     ensures { result ≡ first_below count (lone (flagged level.now)) }
 {
     let mut first: u16 = 512;
-    let mut x: u16 = 0;
-    while x < count {
+    for x in 0..count {
         let at = 2 * (x as usize);
-        first = least(first, place(pair(level[at], level[at + 1]), x));
-        x += 1;
+        first = first.min(place(pair(level[at], level[at + 1]), x));
     }
     first
 }
@@ -122,16 +97,10 @@ fn free_half(level: &[u8; 1024], x: u16) -> u16
 }
 
 // Whether level d has the block that is taken: none is yet, the dimension is at least k, and there is one.
-fn takes(taken: bool, k: u16, d: u16, alone: u16) -> bool
+fn takes(taken: Option<u16>, k: u16, d: u16, alone: u16) -> bool
     ensures { result ≡ taking k d taken alone }
 {
-    if taken {
-        return false;
-    }
-    if d < k {
-        return false;
-    }
-    alone != 0
+    taken.is_none() && k <= d && alone != 0
 }
 
 // Level d is looked at, of which so many pairs have one free half alone: that half is a maximal free block.
@@ -142,17 +111,12 @@ fn see(seen: Seen, level: &[u8; 1024], count: u16, k: u16, d: u16, alone: u16) -
 {
     let tried = seen.tried + alone;
     if !takes(seen.taken, k, d, alone) {
-        return Seen {
-            tried: tried,
-            taken: seen.taken,
-            low: seen.low,
-        };
+        return Seen { tried, ..seen };
     }
     let x = first_lone(level, count);
     Seen {
-        tried: tried,
-        taken: true,
-        low: free_half(level, x) * pow2(d),
+        tried,
+        taken: Some(free_half(level, x) * pow2(d)),
     }
 }
 
@@ -166,28 +130,23 @@ fn see_top(seen: Seen, top: u8) -> Seen
     }
     Seen {
         tried: seen.tried + 1,
-        taken: true,
-        low: seen.low,
+        taken: seen.taken.or(Some(0)),
     }
 }
 
 // The block's lowest part, of dimension k.
 fn answer(seen: Seen, k: u16) -> Walk
     requires { k ≤ 10 }
-    ensures { result ≡ answering k seen.taken seen }
+    ensures { result ≡ answering k seen.taken seen.tried }
 {
-    if !seen.taken {
+    let Some(low) = seen.taken else {
         return Walk::NoneFree(seen.tried);
-    }
-    let low = seen.low;
-    let stars = pow2(k) - 1;
-    Walk::Found(
-        Subcube {
-            low: Label(low),
-            stars: stars,
-        },
-        seen.tried,
-    )
+    };
+    let part = Subcube {
+        low: Label(low),
+        stars: pow2(k) - 1,
+    };
+    Walk::Found(part, seen.tried)
 }
 
 // Best fit: of the maximal free blocks of dimension at least k the smallest, then the lowest label; of that the lowest part.
@@ -199,18 +158,15 @@ pub fn best_walk(flags: &[u8; 1024], n: u16, k: u16) -> Walk
     let mut above = [0; 512];
     let mut seen = Seen {
         tried: 0,
-        taken: false,
-        low: 0,
+        taken: None,
     };
     let mut free = first_level(flags, pow2(n), &mut level);
-    let mut d: u16 = 0;
-    while d < n {
+    for d in 0..n {
         let count = pow2(n - d - 1);
         let both = join(&level, count, &mut above);
         seen = see(seen, &level, count, k, d, free - 2 * both);
         rise(&above, count, &mut level);
         free = both;
-        d += 1;
     }
     answer(see_top(seen, level[0]), k)
 }
