@@ -286,10 +286,11 @@ fn tree_rows(flags: &[u8; 1024], n: u16, low: u16) -> Walk
 {
     let digits = n - low;
     let end = pow2(digits);
+    let mut found = None;
     let mut tried: u16 = 0;
     let mut seen: u16 = 0; // the rows whose block was free
     // The least α,
-    for alpha in 0..end {
+    'walk: for alpha in 0..end {
         if none_at(flags, n, low, alpha == ROWS) {
             return Walk::NoneFree(tree_count(n, low + 1));
         }
@@ -304,7 +305,8 @@ fn tree_rows(flags: &[u8; 1024], n: u16, low: u16) -> Walk
                 if digit(alpha, p) == 0 {
                     tried += 1;
                     if block_free(flags, n, 0, low, alpha + pow2(p)) {
-                        return Walk::Found(tree_member(n, 0, low, alpha, p), tried);
+                        found = Some(tree_member(n, 0, low, alpha, p));
+                        break 'walk;
                     }
                 }
             }
@@ -312,7 +314,10 @@ fn tree_rows(flags: &[u8; 1024], n: u16, low: u16) -> Walk
             tried += zero_digits(alpha, digits, 0);
         }
     }
-    Walk::NoneFree(tried)
+    match found {
+        Some(member) => Walk::Found(member, tried),
+        None => Walk::NoneFree(tried),
+    }
 }
 
 // Tree: the lowest k - 1 bits are stars and one other is, at p. At k = 0 it is buddy's.

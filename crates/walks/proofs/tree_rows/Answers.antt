@@ -11,6 +11,8 @@ use Rattle.walks.proofs.Rests.{left_next, left_done, left_whole, digit-zero, dig
 use Rattle.walks.proofs.Trees.{tree_few}
 use Rattle.walks.proofs.Turns.{stays, counts, misses, hits, ends, one_fails, one_passes}
 use Rattle.walks.proofs.tree_rows.Goals as goal
+use Rattle.walks.proofs.tree_rows.Goals.{else-walk-test}
+use Rattle.walks.proofs.tree_rows.Goals.{then-walk-test+else-none_at+then-block_free+else-none_at-2+then-loop-p-test+then-digit-eq0+then-block_free-2}
 use Rattle.walks.proofs.tree_rows.Goals.{then-digit-eq0+else-block_free-2, else-digit-eq0}
 use Rattle.walks.proofs.tree_rows.Goals.{then-block_free+else-none_at-2+else-loop-p-test, else-block_free}
 
@@ -29,81 +31,106 @@ pub returns-then-none_at : goal.returns-then-none_at
 returns-then-none_at c = closed _ _ c.requires _ c.tree_count.ensures (c.none_at.ensures c.if-none_at.true)
 
 pub block_free-requires-clause-testable : goal.block_free-requires-clause-testable
-block_free-requires-clause-testable c = block_room (row _ _ c.requires c.pow2-end.ensures c.loop-alpha-test.true)
+block_free-requires-clause-testable c = block_room (row _ _ c.requires c.pow2-end.ensures c.walk-test.true)
 
 pub returns-then-none_at-2 : goal.returns-then-none_at-2
 returns-then-none_at-2 c = closed _ _ c.requires _ c.tree_count-then-none_at-2.ensures (c.none_at-then-block_free.ensures c.if-none_at-2.true)
 
 pub loop-p-init : goal.loop-p-init
-loop-p-init c = stays c.loop-alpha.invariant.stands (left_next _ _ _ _ c.loop-alpha-test.true ∙ left_whole _ _ _)
+loop-p-init c = record {
+  stands = stays c.walk.invariant.stands (left_next _ _ _ _ c.walk-test.true ∙ left_whole _ _ _);
+  not_yet = c.walk.invariant.not_yet;
+}
 
 pub overflow_add-tried : goal.overflow_add-tried
 overflow_add-tried c =
     omega (
       arith,
-      counts c.loop-p.invariant (_ ∷ []) _ (digit-zero _ _ _ _ _ c.loop-p-test.true (sym c.digit.ensures ∙ c.if-digit-eq0.true)),
+      counts c.loop-p.invariant.stands (_ ∷ []) _ (digit-zero _ _ _ _ _ c.loop-p-test.true (sym c.digit.ensures ∙ c.if-digit-eq0.true)),
       few _ _ c.requires,
     )
 
 pub block_free-requires-then-digit-eq0-clause-testable : goal.block_free-requires-then-digit-eq0-clause-testable
 block_free-requires-then-digit-eq0-clause-testable c =
-    rw c.pow2.ensures (block_room (other_row (row _ _ c.requires c.pow2-end.ensures c.loop-alpha-test.true) c.loop-p-test.true
+    rw c.pow2.ensures (block_room (other_row (row _ _ c.requires c.pow2-end.ensures c.walk-test.true) c.loop-p-test.true
     (sym c.digit.ensures ∙ c.if-digit-eq0.true)))
 
 pub tree_member-requires-clause-inside : goal.tree_member-requires-clause-inside
 tree_member-requires-clause-inside c =
-    (member_room (row _ _ c.requires c.pow2-end.ensures c.loop-alpha-test.true) c.loop-p-test.true (sym c.digit.ensures ∙ c.if-digit-eq0.true)).0
-
-pub returns-then-block_free-2 : goal.returns-then-block_free-2
-returns-then-block_free-2 c =
-    hits c.loop-p.invariant _ _ (digit-zero _ _ _ _ _ c.loop-p-test.true (sym c.digit.ensures ∙ c.if-digit-eq0.true))
-    (one_passes _ c.tree_member.ensures _
-    (ap (is_free _) c.tree_member.ensures
-    ∙ member_tested (row _ _ c.requires c.pow2-end.ensures c.loop-alpha-test.true) _ _ c.loop-p-test.true
-    (sym c.block_free.ensures ∙ c.if-block_free.true)
-    (sym (rw c.pow2.ensures at c.block_free-then-digit-eq0.ensures) ∙ c.if-block_free-2.true)))
+    (member_room (row _ _ c.requires c.pow2-end.ensures c.walk-test.true) c.loop-p-test.true (sym c.digit.ensures ∙ c.if-digit-eq0.true)).0
 
 pub loop-p-preserved : goal.loop-p-preserved
 loop-p-preserved c =
     elim c.if-digit-eq0.branch [
       | then-digit-eq0+else-block_free-2 w ↦
           rw w.tried-is
-          (misses c.loop-p.invariant _ _ (digit-zero _ _ _ _ _ c.loop-p-test.true (sym c.digit.ensures ∙ w.if-digit-eq0.true))
-          (one_fails _ refl _
-          (member_tested (row _ _ c.requires c.pow2-end.ensures c.loop-alpha-test.true) _ _ c.loop-p-test.true
-          (sym c.block_free.ensures ∙ c.if-block_free.true)
-          (sym (rw w.pow2.ensures at w.block_free-then-digit-eq0.ensures) ∙ w.if-block_free-2.false))))
+          (record {
+            stands =
+                misses c.loop-p.invariant.stands _ _ (digit-zero _ _ _ _ _ c.loop-p-test.true (sym c.digit.ensures ∙ w.if-digit-eq0.true))
+                (one_fails _ refl _
+                (member_tested (row _ _ c.requires c.pow2-end.ensures c.walk-test.true) _ _ c.loop-p-test.true
+                (sym c.block_free.ensures ∙ c.if-block_free.true)
+                (sym (rw w.pow2.ensures at w.block_free-then-digit-eq0.ensures) ∙ w.if-block_free-2.false)));
+            not_yet = c.loop-p.invariant.not_yet;
+          })
       | else-digit-eq0 w ↦
           rw w.tried-is
-          (stays c.loop-p.invariant (digit_one _ _ _ _ _ c.loop-p-test.true (λ z. w.if-digit-eq0.false (c.digit.ensures ∙ z))))
+          (record {
+            stands = stays c.loop-p.invariant.stands (digit_one _ _ _ _ _ c.loop-p-test.true (λ z. w.if-digit-eq0.false (c.digit.ensures ∙ z)));
+            not_yet = c.loop-p.invariant.not_yet;
+          })
     ]
 
 pub overflow_add-tried-else-block_free : goal.overflow_add-tried-else-block_free
 overflow_add-tried-else-block_free c =
     omega (
       arith,
-      counts c.loop-alpha.invariant.stands (places c.args.n 0 c.args.low c.loop-alpha.alpha (c.args.n - c.args.low) 0) _
-          (left_next _ _ _ _ c.loop-alpha-test.true),
-      length-places c.args.n 0 c.args.low c.loop-alpha.alpha (c.args.n - c.args.low) 0,
+      counts c.walk.invariant.stands (places c.args.n 0 c.args.low c.walk.alpha (c.args.n - c.args.low) 0) _
+          (left_next _ _ _ _ c.walk-test.true),
+      length-places c.args.n 0 c.args.low c.walk.alpha (c.args.n - c.args.low) 0,
       few _ _ c.requires,
     )
 
-pub loop-alpha-preserved : goal.loop-alpha-preserved
-loop-alpha-preserved c =
+pub walk-preserved : goal.walk-preserved
+walk-preserved c =
     elim c.if-block_free.branch [
       | then-block_free+else-none_at-2+else-loop-p-test w ↦
-          rw (w.tried-is, w.seen-is)
-          (record { stands = stays w.loop-p.invariant (left_done _ _ _ _ w.loop-p-test.false); seen_le = omega arith })
+          rw (w.found-is, w.tried-is, w.seen-is)
+          (record {
+            stands = stays w.loop-p.invariant.stands (left_done _ _ _ _ w.loop-p-test.false);
+            seen_le = omega arith;
+            not_yet = w.loop-p.invariant.not_yet;
+          })
       | else-block_free w ↦
-          rw (w.tried-is, w.seen-is)
+          rw (w.found-is, w.tried-is, w.seen-is)
           (record {
             stands =
-                misses c.loop-alpha.invariant.stands _ _ (left_next _ _ _ _ c.loop-alpha-test.true)
-                (row_misses _ _ (omega arith) (row _ _ c.requires c.pow2-end.ensures c.loop-alpha-test.true) _ _ w.zero_digits-tried.ensures
+                misses c.walk.invariant.stands _ _ (left_next _ _ _ _ c.walk-test.true)
+                (row_misses _ _ (omega arith) (row _ _ c.requires c.pow2-end.ensures c.walk-test.true) _ _ w.zero_digits-tried.ensures
                 (sym c.block_free.ensures ∙ w.if-block_free.false));
             seen_le = omega arith;
+            not_yet = c.walk.invariant.not_yet;
           })
     ]
 
-pub returns : goal.returns
-returns c = ends c.loop-alpha.invariant.stands (left_done _ _ _ _ c.loop-alpha-test.false)
+pub returns-in-Some : goal.returns-in-Some
+returns-in-Some c =
+    elim c.walk-test.branch [
+      | else-walk-test w ↦ let n = c.walk.invariant.not_yet in cc
+      | then-walk-test+else-none_at+then-block_free+else-none_at-2+then-loop-p-test+then-digit-eq0+then-block_free-2 w ↦
+          let e : c.in-Some.member ≡ w.tree_member.result = cc in
+          rw (e, w.tried-is)
+          (hits w.loop-p.invariant.stands _ _ (digit-zero _ _ _ _ _ w.loop-p-test.true (sym w.digit.ensures ∙ w.if-digit-eq0.true))
+          (one_passes _ w.tree_member.ensures _
+          (ap (is_free _) w.tree_member.ensures
+          ∙ member_tested (row _ _ c.requires c.pow2-end.ensures w.walk-test.true) _ _ w.loop-p-test.true
+          (sym w.block_free.ensures ∙ w.if-block_free.true)
+          (sym (rw w.pow2.ensures at w.block_free-then-digit-eq0.ensures) ∙ w.if-block_free-2.true))))
+    ]
+
+pub returns-in-None : goal.returns-in-None
+returns-in-None c =
+    elim c.walk-test.branch [
+      | else-walk-test w ↦ rw w.tried-is (ends c.walk.invariant.stands (left_done _ _ _ _ w.walk-test.false))
+      | then-walk-test+else-none_at+then-block_free+else-none_at-2+then-loop-p-test+then-digit-eq0+then-block_free-2 w ↦ cc
+    ]
