@@ -1,6 +1,5 @@
 -- The laws of the loading test.
 pub mod Pass
-pub mod Lowest
 pub mod Marks
 pub mod Few
 pub mod Formed

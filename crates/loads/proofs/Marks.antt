@@ -2,7 +2,7 @@
 use Prim.Native.Nat.{ℕ, zero, suc, ◌+◌, ◌*◌, ◌/◌, ◌%◌, ◌^◌, ◌<◌, max}
 use mathlib.Core.Logic.{◌≢◌}
 use mathlib.Core.Path.{◌≡◌, refl, sym, ap, ap₂, ◌∙◌}
-use mathlib.Core.Bool.{Bool, true, false, not, ◌&&◌, ◌||◌, or-true, or-false, and-false}
+use mathlib.Core.Bool.{Bool, true, not, ◌&&◌, ◌||◌, or-true, or-false, and-false}
 use mathlib.Core.List.{List}
 use native.Mathlib.Decide.{ℕ_discrete}
 use native.Mathlib.Numerals.{add-one}
@@ -20,7 +20,6 @@ use Rattle.hypercube.proofs.Lists.{zero_at}
 use Rattle.record.specs.Says.{says}
 use Rattle.loads.specs.Pass.{is_lowest, is_alone, lowest_for, alone_at}
 use Rattle.loads.specs.Marks.{is_marked, MarkedIf}
-use Rattle.loads.proofs.Lowest.{first_unheld, first_other, first_lowest}
 
 -- ---- one mark
 
@@ -71,23 +70,6 @@ not_marked l j = go (bit (get_or l (j / 8) 0) (j % 8)) (omega arith)
     go zero h = refl
     go (suc zero) h = refl
     go (suc (suc v)) h = absurd (omega arith)
-
--- ---- the test of a node by its job's mark, way out by way out
-
-unmarked : {b : Bool} {j : ℕ} {l : List ℕ} → b ≡ false → MarkedIf b j l l
-unmarked {b} {j} {l} e = record { long = refl; marks = λ k. rw e (sym (or-false (is_marked l k))) }
-
-module _ (l : List ℕ) (h s x : ℕ) where
-  pub alone_unheld : h ≡ 0 → (true ≡ is_alone h s x (is_marked l h)) × MarkedIf (is_lowest h s x) h l l
-  alone_unheld e = (first_unheld h s x (is_marked l h) e, unmarked (rw (eq-eqb h 0 e)))
-
-  module _ (d : h ≢ 0) where
-    pub alone_other : bit_and x s ≢ 0 → (true ≡ is_alone h s x (is_marked l h)) × MarkedIf (is_lowest h s x) h l l
-    alone_other n = (first_other h s x (is_marked l h) d n, unmarked (rw (ne_eqb h 0 d, ne_eqb (bit_and x s) 0 n)))
-
-    pub alone-lowest : bit_and x s ≡ 0 → {b : Bool} {l' : List ℕ} → (b ≡ not (is_marked l h)) × MarkedIf true h l l'
-        → (b ≡ is_alone h s x (is_marked l h)) × MarkedIf (is_lowest h s x) h l l'
-    alone-lowest z m = (first_lowest h s x (is_marked l h) d z m.0, rw (ne_eqb h 0 d, eq-eqb (bit_and x s) 0 z) m.1)
 
 -- ---- the marks of a record's jobs
 

@@ -14,14 +14,14 @@ fn holder_at(bytes: &[u8], x: u16) -> u16
     requires { (length bytes.now ≡ record_size) × (x < 1024) }
     ensures { result ≡ (says bytes.now).holder x }
 {
-    record::word(bytes, record::HOLDERS + 2 * x as usize)
+    record::word(bytes, record::HOLDERS + 2 * usize::from(x))
 }
 
 fn stars_at(bytes: &[u8], x: u16) -> u16
     requires { (length bytes.now ≡ record_size) × (x < 1024) }
     ensures { result ≡ (says bytes.now).stars x }
 {
-    record::word(bytes, record::STARS + 2 * x as usize)
+    record::word(bytes, record::STARS + 2 * usize::from(x))
 }
 
 // Whether node y has this holder and these star bits.
@@ -83,8 +83,8 @@ fn block_whole(bytes: &[u8], n: u16, at: u16, end: u16) -> bool
         × ((n ≤ 10) × ((at ≤ end) × ((end ≤ 1024) × (true ≡ all_below (whole_at bytes.now n) at)))) }
     ensures { result ≡ all_below (whole_at bytes.now n) end }
 {
-    let from = record::HOLDERS + 2 * at as usize;
-    let to = record::HOLDERS + 2 * end as usize;
+    let from = record::HOLDERS + 2 * usize::from(at);
+    let to = record::HOLDERS + 2 * usize::from(end);
     if record::all_zero(&bytes[from..to]) {
         return true;
     }
@@ -104,15 +104,11 @@ fn all_whole(bytes: &[u8], n: u16, size: u16) -> bool
     true
 }
 
-// 1 for the lowest node of a job's subcube, 0 for another.
-fn lowest_one(x: u16, holder: u16, stars: u16) -> u16
-    ensures { result ≡ cond (is_lowest holder stars x) 1 0 }
+// Whether node x is the lowest of a job's subcube.
+fn is_lowest(x: u16, holder: u16, stars: u16) -> bool
+    ensures { result ≡ is_lowest holder stars x }
 {
-    if holder == 0 {
-        0
-    } else {
-        (x & stars == 0) as u16
-    }
+    (holder != 0) & (x & stars == 0)
 }
 
 // How many nodes are the lowest of a job's subcube. The loop runs to its end, so that the compiler takes many nodes at a time.
@@ -122,7 +118,7 @@ fn lowest_nodes(bytes: &[u8], size: u16) -> u16
 {
     let mut count = 0;
     for x in 0..size {
-        count += lowest_one(x, holder_at(bytes, x), stars_at(bytes, x));
+        count += u16::from(is_lowest(x, holder_at(bytes, x), stars_at(bytes, x)));
     }
     count
 }
@@ -132,7 +128,7 @@ fn mark(marks: &mut [u8; 8192], j: u16) -> bool
     requires { length marks.old ≡ 8192 }
     ensures { (result ≡ not (is_marked marks.old j)) × MarkedIf true j marks.old marks.new }
 {
-    let at = (j / 8) as usize;
+    let at = usize::from(j / 8);
     let byte = marks[at];
     marks[at] = byte | (1 << (j % 8));
     (byte >> (j % 8)) % 2 == 0
@@ -144,13 +140,7 @@ fn is_alone(marks: &mut [u8; 8192], x: u16, holder: u16, stars: u16) -> bool
     ensures { (result ≡ is_alone holder stars x (is_marked marks.old holder))
         × MarkedIf (is_lowest holder stars x) holder marks.old marks.new }
 {
-    if holder == 0 {
-        return true;
-    }
-    if x & stars != 0 {
-        return true;
-    }
-    mark(marks, holder)
+    !is_lowest(x, holder, stars) || mark(marks, holder)
 }
 
 // Whether each job has one lowest node below `size`. A mark for each job number tells whether one came before.
@@ -191,13 +181,7 @@ fn is_first(bytes: &[u8], x: u16, holder: u16, stars: u16) -> bool
     requires { (length bytes.now ≡ record_size) × (x < 1024) }
     ensures { result ≡ is_alone holder stars x (any_below (lowest_for bytes.now holder) x) }
 {
-    if holder == 0 {
-        return true;
-    }
-    if x & stars != 0 {
-        return true;
-    }
-    none_before(bytes, x, holder)
+    !is_lowest(x, holder, stars) || none_before(bytes, x, holder)
 }
 
 // The same as `all_alone`, by pairs: for so few nodes that this costs less than clearing the marks.
@@ -231,7 +215,7 @@ pub fn is_formed(bytes: &[u8]) -> bool
     requires { valid_record bytes.now ≡ true }
     ensures { result ≡ (formed_record bytes.now).test }
 {
-    let n = record::dimension(bytes) as u16;
+    let n = u16::from(record::dimension(bytes));
     let size = hypercube::pow2(n);
     if !all_whole(bytes, n, size) {
         return false;
