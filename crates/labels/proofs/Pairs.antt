@@ -1,21 +1,16 @@
 -- Flags read and put in pairs: an even label's and the next one's. Assumes nothing.
 use Prim.Native.Nat.{ℕ, zero, suc, ◌+◌, ◌-◌, ◌*◌, ◌/◌, ◌%◌, ◌^◌, ◌<◌, ◌≤◌}
 use mathlib.Core.Path.{◌≡◌, refl, sym, ap, ◌∙◌}
-use mathlib.Core.Logic.{◌⊎◌, inl, inr, ⊎_elim}
-use mathlib.Core.Bool.{true, false, false≢true, ◌&&◌}
+use mathlib.Core.Logic.{⊎_elim}
 use mathlib.Core.List.{List}
 use native.Mathlib.Nat.{pow-succ'}
 use native.Mathlib.Omega.{arith}
-use borrow.Author.Count.{below_more}
-use lib.Dec.{ltb}
-use lib.ListN.{length, get_or, set, replicate, length-replicate, get_or-replicate, length-set}
+use lib.ListN.{length, get_or, replicate, length-replicate, get_or-replicate}
 use lib.Pow.{pow-add}
-use lib.Seq.{get_or-set_same, get_or-set_other}
 use Rattle.hypercube.specs.Labels.{node}
 use Rattle.hypercube.specs.declared.Node.{Node}
 use Rattle.hypercube.proofs.Bits.{lt_or}
 use Rattle.hypercube.proofs.Filled.{Swept}
-use Rattle.hypercube.specs.Tests.{Means, means_and, means_lt}
 use Rattle.labels.specs.Directions.{Directions}
 use Rattle.labels.specs.Flags.{numbered, nodes_from, EmptyFrom, moved_at, by_label, Paired, even_from, pair_from, PairsPut}
 use Rattle.labels.proofs.Directions.{node_small}
@@ -38,76 +33,9 @@ paired_none step fs = record {
   rest = λ k g b. get_or-replicate {A = ℕ} 1024 k 0 0 b;
 }
 
-module _ {step : ℕ} {fs : List ℕ} {i : ℕ} {ps : List ℕ} (t : PairedTo step fs i ps) where
-  pub paired_next : (v : ℕ) → i < 1024 → v % 256 ≡ get_or fs i 0 → v / 256 ≡ get_or fs (i + step) 0 → PairedTo step fs (i + 1) (set ps i v)
-  paired_next v b e d =
-      let put = get_or-set_same ps i v 0 (omega (arith, t.long)) in
-      record {
-        long = length-set ps i v ∙ t.long;
-        first = below_more (λ k. get_or (set ps i v) k 0 % 256 ≡ get_or fs k 0) i
-            (λ k q. ap (λ (z : ℕ). z % 256) (get_or-set_other ps i k v 0 (λ s. omega arith)) ∙ t.first k q)
-            (ap (λ (z : ℕ). z % 256) put ∙ e);
-        second = below_more (λ k. get_or (set ps i v) k 0 / 256 ≡ get_or fs (k + step) 0) i
-            (λ k q. ap (λ (z : ℕ). z / 256) (get_or-set_other ps i k v 0 (λ s. omega arith)) ∙ t.second k q)
-            (ap (λ (z : ℕ). z / 256) put ∙ d);
-        rest = λ k g q. get_or-set_other ps i k v 0 (λ s. omega arith) ∙ t.rest k (omega arith) q;
-      }
-
-  -- none is left whose nodes are both within 1024 and not both past the cube
-  pub paired_all : {size : ℕ} → EmptyFrom fs size → (size ≤ i) ⊎ (1024 ≤ i + step) → Paired step fs ps
-  paired_all {size} E end = record {
-    first = λ x b. ⊎_elim (t.first x) (λ g. omega (arith, t.rest x g (omega arith), (both x b g).0)) (lt_or x i);
-    second = λ x b. ⊎_elim (t.second x) (λ g. omega (arith, t.rest x g (omega arith), (both x b g).1)) (lt_or x i);
-  }
-    where
-      both : (x : ℕ) → x + step < 1024 → i ≤ x → (get_or fs x 0 ≡ 0) × (get_or fs (x + step) 0 ≡ 0)
-      both x b g =
-          ⊎_elim (λ h. (E.empty x (omega arith) (omega arith), E.empty (x + step) (omega arith) b)) (λ h. absurd (omega arith)) end
-
--- the test of the loop that makes them
-test : (x size step : ℕ) → Means (ltb x size && ltb (x + step) 1024) ((x < size) × (x + step < 1024))
-test x size step = means_and (means_lt x size) (means_lt (x + step) 1024)
-
-pub made : (x size step : ℕ) → (ltb x size && ltb (x + step) 1024) ≡ true → (x < size) × (x + step < 1024)
-made x size step = (test x size step).holds
-
-pub all_made : (x size step : ℕ) → (ltb x size && ltb (x + step) 1024) ≡ false → (size ≤ x) ⊎ (1024 ≤ x + step)
-all_made x size step e =
-    ⊎_elim (λ a. ⊎_elim (λ b. absurd (false≢true (sym e ∙ (test x size step).shows (a, b)))) inr (lt_or (x + step) 1024)) inl (lt_or x size)
-
 -- ---- pairs put
 
-pub put_none : (pair : ℕ → ℕ) (at : ℕ) (fs : List ℕ) → PairsPut pair at 0 fs fs
-put_none pair at fs = record {
-  entries = refl;
-  first = λ l b. absurd (omega arith);
-  second = λ l b. absurd (omega arith);
-  before = λ k b. refl;
-  after = λ k g. refl;
-}
-
 module _ {pair : ℕ → ℕ} {at c : ℕ} {old new : List ℕ} (t : PairsPut pair at c old new) where
-  pub put_next : (u v : ℕ) → at + 2 * c + 1 < length old → u ≡ pair c % 256 → v ≡ pair c / 256
-      → PairsPut pair at (c + 1) old (set (set new (at + 2 * c) u) (at + 2 * c + 1) v)
-  put_next u v b e d =
-      let p = at + 2 * c in
-      let one = set new p u in
-      let two = set one (p + 1) v in
-      let long = length-set new p u in
-      let other : (k : ℕ) → (k ≡ p → ⊥) → (k ≡ p + 1 → ⊥) → get_or two k 0 ≡ get_or new k 0 =
-      λ k m n. get_or-set_other one (p + 1) k v 0 n ∙ get_or-set_other new p k u 0 m in
-      record {
-        entries = length-set one (p + 1) v ∙ long ∙ t.entries;
-        first = below_more (λ l. get_or two (at + 2 * l) 0 ≡ pair l % 256) c
-            (λ l q. other (at + 2 * l) (λ s. omega arith) (λ s. omega arith) ∙ t.first l q)
-            (get_or-set_other one (p + 1) p v 0 (λ s. omega arith) ∙ get_or-set_same new p u 0 (omega (arith, t.entries)) ∙ e);
-        second = below_more (λ l. get_or two (at + 2 * l + 1) 0 ≡ pair l / 256) c
-            (λ l q. other (at + 2 * l + 1) (λ s. omega arith) (λ s. omega arith) ∙ t.second l q)
-            (get_or-set_same one (p + 1) v 0 (omega (arith, long, t.entries)) ∙ d);
-        before = λ k q. other k (λ s. omega arith) (λ s. omega arith) ∙ t.before k q;
-        after = λ k g. other k (λ s. omega arith) (λ s. omega arith) ∙ t.after k (omega arith);
-      }
-
   -- what the pairs say is what was meant
   pub put_swept : {f : ℕ → ℕ} {hs : List ℕ} → Swept f 0 hs at old → ((l : ℕ) → l < c → pair l % 256 ≡ f (at + 2 * l))
       → ((l : ℕ) → l < c → pair l / 256 ≡ f (at + 2 * l + 1)) → Swept f 0 hs (at + 2 * c) new
