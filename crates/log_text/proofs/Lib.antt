@@ -3,7 +3,6 @@ pub mod Stays
 pub mod Parts
 pub mod Waits
 pub mod Running
-pub mod Fronts
 pub mod WrongFirst
 pub mod Every
 pub mod Theorem

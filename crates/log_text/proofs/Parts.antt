@@ -159,9 +159,9 @@ module _ (w : List ℕ) (last : Bool) (p : Place) (r out : List ℕ) (s : Step) 
   nothing : Put out p.put [] out p.put
   nothing = record { stored = refl; placed = omega arith; long = refl }
 
-  pub turned_more : s ≡ More → Turned w last p r out (record { at = p.at; put = p.put; tally = p.tally; ended = false; waits = true }) r' out
+  pub turned_more : s ≡ More → Turned w last p r out (record { at = p.at; put = p.put; tally = p.tally; ended = p.ended; waits = true }) r' out
   turned_more e = record {
-    moves = record { bytes = []; printed = nothing; completes = λ more text end h. rw on (rw kept at h); inside = λ h. h; fits = λ h. h };
+    moves = record { bytes = []; printed = nothing; completes = λ more text end h. rw on (rw (on, kept) at h); inside = λ h. h; fits = λ h. h };
     waiting = λ h. rw kept (sym S.answered ∙ e);
     falls = inr (inl refl);
   }

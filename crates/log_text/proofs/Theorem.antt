@@ -5,8 +5,7 @@ use mathlib.Core.Logic.{◌≢◌}
 use mathlib.Core.Bool.{true}
 use mathlib.Core.List.{List, [], ◌∷◌, ◌++◌}
 use native.Mathlib.Omega.{arith}
-use borrow.Author.Tests.{eq-eqb, ne_eqb, eqb-true}
-use lib.Dec.{eqb}
+use borrow.Author.Tests.{eq-eqb, ne_eqb}
 use lib.ListN.{length, take, drop, length-append}
 use lib.Seq.{take-append_seam, drop-append_seam}
 use Rattle.hypercube.specs.Words.{word}
@@ -22,7 +21,7 @@ use Rattle.cube.proofs.Theorem.{heard_is, demand3}
 use Rattle.frame_log.specs.declared.Cursor.{Cursor}
 use Rattle.frame_log.specs.declared.Next.{Next}
 use Rattle.frame_log.specs.declared.Next.TheVariants as next
-use Rattle.frame_log.specs.declared.Step.TheVariants.{Line, More, End}
+use Rattle.frame_log.specs.declared.Step.TheVariants.{Line}
 use Rattle.frame_log.specs.Next.{next_of}
 use Rattle.frame_log.specs.Frames.{first_number, first_record, zeros, later_outcome, later_record, told}
 use Rattle.frame_log.specs.Steps.{on_frame, on_record, step_of, step_record}

@@ -8,6 +8,7 @@ use frame_log::{Cursor, Step};
 use tally::{Outcome, Tally};
 
 // How far a log is: the place in the window, the place in the output, the counts so far, whether it has ended, and whether it waits for more input.
+// Two flags and no enum: the definitions `Left`, `Turned` and `Ran` (specs/Moves.antt) and the theorem on runs above speak of each by itself.
 #[derive(Clone, Copy)]
 pub struct Place {
     pub at: usize,
@@ -32,22 +33,18 @@ impl Place {
     }
 }
 
-// A line more, and the place in the window after it.
-fn add_line(out: &mut [u8], p: Place, o: Outcome, at: usize, ended: bool) -> Place
+// A line more.
+fn add_line(out: &mut [u8], p: Place, o: Outcome) -> Place
     requires { p.put + 64 ≤ length out.old }
-    ensures { Added out.old p o at ended out.new result }
+    ensures { Added out.old p o p.at p.ended out.new result }
 {
-    let before = p.tally;
-    let tally = before.with(o);
-    let place = tally.total;
-    let from = p.put;
-    let put = lines::put_line(out, from, place, o);
+    let tally = p.tally.with(o);
+    let put = lines::put_line(out, p.put, tally.total, o);
     Place {
-        at,
         put,
         tally,
-        ended,
         waits: false,
+        ..p
     }
 }
 
@@ -56,26 +53,20 @@ fn turn(rec: &mut [u8], window: &[u8], last: bool, out: &mut [u8], p: Place) -> 
     requires { (p.ended ≡ false) × (p.put + 64 ≤ length out.old) }
     ensures { Turned window.now last p rec.old out.old result rec.new out.new }
 {
-    let at = p.at;
-    let tally = p.tally;
-    let put = p.put;
-    let s = frame_log::take_step(rec, window, Cursor { at }, last, tally.total);
-    match s {
-        Step::Line(o, c) => add_line(out, p, o, c.at, false),
-        Step::Last(o) => add_line(out, p, o, at, true),
-        Step::More => Place {
-            at,
-            put,
-            tally,
-            ended: false,
-            waits: true,
-        },
+    match frame_log::take_step(rec, window, Cursor { at: p.at }, last, p.tally.total) {
+        Step::Line(o, c) => {
+            let q = add_line(out, p, o);
+            Place { at: c.at, ..q }
+        }
+        Step::Last(o) => {
+            let q = add_line(out, p, o);
+            Place { ended: true, ..q }
+        }
+        Step::More => Place { waits: true, ..p },
         Step::End => Place {
-            at,
-            put,
-            tally,
             ended: true,
             waits: false,
+            ..p
         },
     }
 }
@@ -84,25 +75,15 @@ fn turn(rec: &mut [u8], window: &[u8], last: bool, out: &mut [u8], p: Place) -> 
 fn goes_on(p: Place, len: usize) -> bool
     ensures { result ≡ (not p.ended && (not p.waits && leb (p.put + 64) len)) }
 {
-    let put = p.put;
-    if p.ended {
-        return false;
-    }
-    if p.waits {
-        return false;
-    }
-    if len < put {
-        return false;
-    }
-    64 <= len - put
+    !p.ended && !p.waits && p.put <= len && 64 <= len - p.put
 }
 
 // Steps through the window until the log has ended, more of the input is wanted, or the output has no room for a line.
 pub fn run(rec: &mut [u8], window: &[u8], last: bool, out: &mut [u8], p: Place) -> Place
     ensures { Ran window.now last p rec.old out.old result rec.new out.new }
 {
-    let mut q = p;
-    q.waits = false;
+    let mut q = Place { waits: false, ..p };
+    // No index is counted: the place that a step leads to says whether there is another.
     while goes_on(q, out.len()) {
         q = turn(rec, window, last, out, q);
     }
@@ -114,9 +95,5 @@ pub fn to_front(window: &mut [u8], at: usize, count: usize)
     requires { at + count ≤ length window.old }
     ensures { take count window.new ≡ take count (drop at window.old) }
 {
-    let mut i = 0;
-    while i < count {
-        window[i] = window[at + i];
-        i += 1;
-    }
+    window.copy_within(at..at + count, 0);
 }
