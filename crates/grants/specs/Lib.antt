@@ -1,2 +1,3 @@
--- What a request or a growth without a cause before 14 does to a record.
+-- What a request or a growth does to a record: its checks, and without a cause before 14.
+pub mod Checked
 pub mod Grants

@@ -17,8 +17,9 @@ walk_of-walk-requires c = (c.requires.0.right, (c.load_map-map.ensures, c.requir
 
 pub returns-in_default : goal.returns-in_default
 returns-in_default c =
-    told_only _ _ (Refused 14 _) (λ z. absurd (omega arith))
-    (grant_14 _ _ _ _ c.walk_of-walk.ensures _ c.in_default.is _ c.tried_in.ensures)
+    rw c.reply.ensures
+    (told_only _ _ (Refused 14 _) (λ z. absurd (omega arith))
+    (grant_14 _ _ _ _ c.walk_of-walk.ensures _ c.in_default.is _ c.tried_in.ensures))
 
 pub node_of-low-requires : goal.node_of-low-requires
 node_of-low-requires c = map_directions _ c.requires.0.right c.load_map-map.ensures
