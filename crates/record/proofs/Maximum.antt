@@ -1,11 +1,13 @@
 -- The highest of a list's numbers: what it says of the entries. Assumes nothing.
 use Prim.Native.Nat.{ℕ, zero, suc, ◌+◌, ◌-◌, ◌<◌, ◌≤◌}
 use mathlib.Core.Logic.{◌↔◌}
-use mathlib.Core.Path.{◌≡◌}
-use mathlib.Core.List.{List, [], ◌∷◌}
+use mathlib.Core.Path.{◌≡◌, ◌∙◌}
+use mathlib.Core.List.{List, [], ◌∷◌, map}
 use native.Mathlib.Omega.{arith}
 use lib.ListN.{length, get_or, take, drop, length-take, length-drop}
 use lib.Seq.{get_or-take, get_or-drop}
+use Rattle.hypercube.specs.Lists.{from}
+use Rattle.hypercube.proofs.Lists.{is_each}
 use Rattle.record.specs.Highest.{highest_of}
 
 pub within : (l : List ℕ) (v : ℕ) → highest_of l ≤ v → (i : ℕ) → i < length l → get_or l i 0 ≤ v
@@ -38,3 +40,11 @@ module _ (r : List ℕ) (a e : ℕ) (fits : e ≤ length r) where
         rw p at (rw (part_at (i - a) q) at (within (part r a e) v h (i - a) (omega (arith, length_part)))),
     λ h. above (part r a e) v (λ i l. let q : i < e - a = omega (arith, length_part) in rw (part_at i q) (h (a + i) (omega arith) (omega arith))),
   )
+
+-- n bytes from place a on, one by one
+pub part_each : (r : List ℕ) (a n : ℕ) → a + n ≤ length r → part r a (a + n) ≡ map (λ i. get_or r (a + i) 0) (from 0 n)
+part_each r a n fits =
+    is_each (λ i. get_or r (a + i) 0) n (part r a (a + n)) (length_part r a (a + n) fits ∙ add-sub) (λ i h. part_at r a (a + n) fits i (omega arith))
+  where
+    add-sub : a + n - a ≡ n
+    add-sub = omega arith

@@ -1,14 +1,13 @@
 -- Each part of a state's record, between what stands before it and after it. Assumes nothing.
 use Prim.Native.Nat.{ℕ, ◌%◌, ◌/◌}
-use mathlib.Core.Path.{◌≡◌, refl, sym, ap, ◌∙◌}
+use mathlib.Core.Path.{◌≡◌, refl}
 use mathlib.Core.List.{List, [], ◌∷◌, ◌++◌, append_assoc, append-nil}
-use native.Mathlib.Omega.{arith}
 use lib.ListN.{length, length-append}
 use Rattle.hypercube.specs.Words.{words}
 use Rattle.state.specs.declared.State.{State}
 use Rattle.state.specs.States.{with_map, with_holders, with_stars}
 use Rattle.state.proofs.Valid.{Sized}
-use Rattle.record.specs.Layout.{record_size, record_kind, map_at, holders_at, conditions_at, stars_at, encode}
+use Rattle.record.specs.Layout.{record_size, record_kind, holders_at, conditions_at, stars_at, encode}
 use Rattle.record.proofs.Between.{length-words}
 
 module _ (s : State) where

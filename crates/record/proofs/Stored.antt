@@ -1,21 +1,24 @@
 -- A record stored from the front, byte by byte or a part at a time, with the rest left; it is in the end the state's. Assumes nothing.
 use Prim.Native.Nat.{ℕ, ◌+◌, ◌*◌, ◌%◌, ◌/◌, ◌-◌, ◌<◌, ◌≤◌}
 use mathlib.Core.Logic.{⊎_elim}
-use mathlib.Core.Path.{◌≡◌, refl, sym, subst, ◌∙◌}
-use mathlib.Core.List.{List}
+use mathlib.Core.Path.{◌≡◌, refl, sym, ap, subst, ◌∙◌}
+use mathlib.Core.List.{List, ◌++◌}
 use native.Mathlib.Omega.{arith}
 use borrow.Author.Count.{below_more}
-use lib.ListN.{length, get_or, set, length-set}
-use lib.Seq.{ext_get_or, get_or-set_same, get_or-set_other}
+use borrow.Rule.Slice.PartMut.{put_mid}
+use lib.ListN.{length, get_or, set, take, drop, length-set, length-append, length-take, length-drop}
+use lib.Seq.{ext_get_or, get_or-set_same, get_or-set_other, get_or-take, get_or-drop}
+use Rattle.std.proofs.lemmas.List.{get_or_append_left, length-take-le}
 use Rattle.hypercube.specs.Words.{words, put_word}
+use Rattle.hypercube.proofs.Lists.{get_d_past}
 use Rattle.hypercube.proofs.Bits.{lt_or}
 use Rattle.hypercube.proofs.Filled.{filled_none, filled_next}
 use Rattle.state.specs.declared.State.{State}
 use Rattle.state.proofs.Valid.{Sized}
-use Rattle.record.specs.Layout.{record_size, encode}
+use Rattle.record.specs.Layout.{record_size, record_kind, map_at, holders_at, encode}
 use Rattle.record.specs.Stored.{Begun, Stored, Laid}
-use Rattle.record.proofs.Between.{low_at_lem, high_at_lem}
-use Rattle.record.proofs.Round.{length-encode, Says}
+use Rattle.record.proofs.Between.{low_at_lem, high_at_lem, byte_between}
+use Rattle.record.proofs.Round.{length-encode, encode-map, encode-zero, Says}
 
 module _ {s : State} {r : List ℕ} where
   -- what stands there before a loop
@@ -31,13 +34,48 @@ module _ {s : State} {r : List ℕ} where
     rest = λ k g. get_or-set_other l i k v 0 (omega arith) ∙ p.rest k (omega arith);
   }
 
-  -- one loop after another
-  pub stored_then : {i j : ℕ} {m l : List ℕ} → Stored s r i m → Stored s m j l → i ≤ j → Stored s r j l
-  stored_then p q h = record { begun = q.begun; rest = λ k g. q.rest k g ∙ p.rest k (omega arith) }
+  -- k bytes at once
+  pub stored_part : {i : ℕ} {l : List ℕ} (k : ℕ) (ys : List ℕ) → Stored s r i l → length ys ≡ k → i + k ≤ record_size
+      → ((j : ℕ) → j < k → get_or ys j 0 ≡ get_or (encode s) (i + j) 0) → Stored s r (i + k) (put_mid i k l ys)
+  stored_part {i} {l} k ys p e fits given =
+      let front : length (take i l) ≡ i = length-take-le i l (omega (arith, p.begun.long)) in
+      let after : List ℕ = drop k (drop i l) in
+      record {
+        begun = record {
+          long = simp (length-append, length-take, length-drop) (omega (arith, p.begun.long));
+          front = λ j h.
+              ⊎_elim
+              (λ (b : j < i). get_or_append_left (take i l) (ys ++ after) 0 j (omega arith) ∙ get_or-take i l j 0 b ∙ p.begun.front j b)
+              (λ (a : i ≤ j).
+              byte_between (take i l) after i front ys (j - i) j (omega arith) (omega arith)
+              ∙ given (j - i) (omega arith)
+              ∙ ap (λ (x : ℕ). get_or (encode s) x 0) (omega arith))
+              (lt_or j i);
+        };
+        rest = λ j g.
+            get_d_past (take i l) (ys ++ after) 0 (j - i) j (omega arith)
+            ∙ get_d_past ys after 0 (j - i - k) (j - i) (omega arith)
+            ∙ get_or-drop k (drop i l) (j - i - k) 0
+            ∙ get_or-drop i l (k + (j - i - k)) 0
+            ∙ ap (λ (x : ℕ). get_or l x 0) (omega arith)
+            ∙ p.rest j (omega arith);
+      }
 
   -- the same place, written another way
   pub stored_to : {i : ℕ} {l : List ℕ} (j : ℕ) → Stored s r i l → i ≡ j → Stored s r j l
   stored_to {i} {l} j p e = subst (λ (k : ℕ). Stored s r k l) e p
+
+-- the head: two words, n, the map, and the zero byte
+pub head_stored : {s : State} {r a b m : List ℕ} → Sized s → length r ≡ record_size → a ≡ put_word r 0 record_size → b ≡ put_word a 2 record_kind
+    → m ≡ s.map → Stored s r holders_at (set (put_mid map_at 10 (set b 4 s.n) m) 15 0)
+unfolding encode
+head_stored {s} {r} {a} {b} {m} z long e d f =
+    let h0 : Stored s r 0 r = stored_none long in
+    let h2 = stored_next (record_size / 256) (stored_next (record_size % 256) h0 (omega arith) refl) (omega arith) refl in
+    let h4 = stored_next 0 (stored_next record_kind h2 (omega arith) refl) (omega arith) refl in
+    let h5 = stored_next s.n h4 (omega arith) refl in
+    let h15 = stored_part 10 s.map h5 z.directions (omega arith) (λ j h. sym (encode-map s z j h)) in
+    rw (f, d, e) (stored_next 0 h15 (omega arith) (sym (encode-zero s z)))
 
 pub stored_all : {s : State} {l : List ℕ} → Sized s → Begun s record_size l → l ≡ encode s
 stored_all {s} {l} z p = ext_get_or 0 l (encode s) (p.long ∙ sym (length-encode s z)) (λ k h. p.front k (omega (arith, p.long)))

@@ -1,7 +1,7 @@
 // A record's bytes, and the state that they say (document 01, "Node and record"; document 02, (f)).
 #![tactic(auto)]
 
-ghost use Rattle.std.specs.Prelude.{◌≡◌, cond, map, ◌+◌, ◌*◌, ◌<◌, ◌≤◌, max, eqb, length, get_or};
+ghost use Rattle.std.specs.Prelude.{◌≡◌, cond, map, ◌+◌, ◌*◌, ◌<◌, ◌≤◌, eqb, length, get_or};
 ghost use Rattle.hypercube.specs.Lists.{from, all_below};
 ghost use Rattle.hypercube.specs.Words.{word, words, put_word};
 ghost use Rattle.labels.specs.Flags.{EmptyFrom};
@@ -23,17 +23,10 @@ pub const CONDITIONS: usize = 2064;
 
 pub const STARS: usize = 3088;
 
-// The length field, and its two bytes.
+// The length field and the kind field.
 const LENGTH: u16 = SIZE as u16;
 
-const LENGTH_LOW: u8 = (SIZE % 256) as u8;
-
-const LENGTH_HIGH: u8 = (SIZE / 256) as u8;
-
-// The kind field, and its low byte; its high byte is 0.
 const KIND: u16 = 2;
-
-const KIND_LOW: u8 = KIND as u8;
 
 // The two bytes from place `at` on, little-endian.
 #[tactic(auto, unfolding(hypercube::specs::Words::word))]
@@ -73,33 +66,30 @@ pub fn stars_at(bytes: &[u8], x: u16) -> u16
 }
 
 // The dimension that a record says.
+#[tactic(auto, unfolding(crate::specs::Layout::decode))]
 pub fn dimension(bytes: &[u8]) -> u8
     requires { length bytes.now ≡ record_size }
     ensures { result ≡ (decode bytes.now).n }
 {
-    let n = bytes[4];
-    n
+    bytes[4]
 }
 
-// The bytes from place `at` on, as many as `part` is long.
-fn load_bytes(bytes: &[u8], at: usize, part: &mut [u8])
-    requires { at + length part.old ≤ length bytes.now }
-    ensures { part.new ≡ map (λ i. get_or bytes.now (at + i) 0) (from 0 (length part.old)) }
+// The bytes from place `at` on.
+fn load_bytes<const N: usize>(bytes: &[u8], at: usize) -> [u8; N]
+    requires { at + N ≤ length bytes.now }
+    ensures { result ≡ map (λ i. get_or bytes.now (at + i) 0) (from 0 N) }
 {
-    let mut i = 0;
-    while i < part.len() {
-        part[i] = bytes[at + i];
-        i += 1;
-    }
+    let mut part = [0; N];
+    part.copy_from_slice(&bytes[at..at + N]);
+    part
 }
 
+#[tactic(auto, unfolding(crate::specs::Layout::decode))]
 pub fn load_map(bytes: &[u8]) -> [u8; 10]
     requires { length bytes.now ≡ record_size }
     ensures { result ≡ (decode bytes.now).map }
 {
-    let mut map = [0; 10];
-    load_bytes(bytes, MAP, &mut map);
-    map
+    load_bytes(bytes, MAP)
 }
 
 // The 1024 words from place `at` on.
@@ -108,21 +98,18 @@ fn load_words(bytes: &[u8], at: usize) -> [u16; 1024]
     ensures { result ≡ map (λ x. word bytes.now (at + 2 * x)) (from 0 1024) }
 {
     let mut words = [0; 1024];
-    let mut x = 0;
-    while x < 1024 {
+    for x in 0..1024 {
         words[x] = word(bytes, at + 2 * x);
-        x += 1;
     }
     words
 }
 
+#[tactic(auto, unfolding(crate::specs::Layout::decode))]
 fn load_conditions(bytes: &[u8]) -> [u8; 1024]
     requires { length bytes.now ≡ record_size }
     ensures { result ≡ (decode bytes.now).conditions }
 {
-    let mut conditions = [0; 1024];
-    load_bytes(bytes, CONDITIONS, &mut conditions);
-    conditions
+    load_bytes(bytes, CONDITIONS)
 }
 
 // The state that a record says.
@@ -158,12 +145,6 @@ pub fn head_right(bytes: &[u8]) -> bool
     bytes[15] == 0
 }
 
-fn greater(a: u8, b: u8) -> u8
-    ensures { result ≡ max a b }
-{
-    if a < b { b } else { a }
-}
-
 // The highest of the bytes, 0 for none. The loop reads both halves at once, of an odd number the middle byte twice, and runs to its end: so the
 // compiler takes 64 bytes a turn, and the time doesn't hang on where the loop falls on cache lines, as it does with 32.
 fn highest(part: &[u8]) -> u8
@@ -171,11 +152,9 @@ fn highest(part: &[u8]) -> u8
 {
     let upper = part.len() / 2;
     let turns = part.len() - upper;
-    let mut m: u8 = 0;
-    let mut i = 0;
-    while i < turns {
-        m = greater(m, greater(part[i], part[upper + i]));
-        i += 1;
+    let mut m = 0;
+    for i in 0..turns {
+        m = m.max(part[i].max(part[upper + i]));
     }
     m
 }
@@ -186,11 +165,9 @@ pub fn all_zero(part: &[u8]) -> bool
 {
     let upper = part.len() / 2;
     let turns = part.len() - upper;
-    let mut any: u8 = 0;
-    let mut i = 0;
-    while i < turns {
-        any = any | (part[i] | part[upper + i]);
-        i += 1;
+    let mut any = 0;
+    for i in 0..turns {
+        any |= part[i] | part[upper + i];
     }
     any == 0
 }
@@ -223,11 +200,9 @@ fn none_stray(bytes: &[u8], size: usize) -> bool
     requires { (length bytes.now ≡ record_size) × (size ≤ 1024) }
     ensures { result ≡ all_below (star_of bytes.now) size }
 {
-    let mut any: u16 = 0;
-    let mut x = 0;
-    while x < size {
-        any = any | stray(word(bytes, HOLDERS + 2 * x), word(bytes, STARS + 2 * x));
-        x += 1;
+    let mut any = 0;
+    for x in 0..size {
+        any |= stray(word(bytes, HOLDERS + 2 * x), word(bytes, STARS + 2 * x));
     }
     any == 0
 }
@@ -278,21 +253,15 @@ pub fn is_valid(bytes: &[u8]) -> bool
 }
 
 // The first 16 bytes: length, kind, n, the map and the zero byte. The others stay.
-fn put_head(s: State, bytes: &mut [u8])
-    requires { length bytes.old ≡ record_size }
-    ensures { Stored s bytes.old holders_at bytes.new }
+fn put_head(s: State, rec: &mut [u8])
+    requires { length rec.old ≡ record_size }
+    ensures { Stored s rec.old holders_at rec.new }
 {
-    bytes[0] = LENGTH_LOW;
-    bytes[1] = LENGTH_HIGH;
-    bytes[2] = KIND_LOW;
-    bytes[3] = 0;
-    bytes[4] = s.n;
-    let mut i = 0;
-    while i < 10 {
-        bytes[MAP + i] = s.map[i];
-        i += 1;
-    }
-    bytes[15] = 0;
+    put_word(rec, 0, LENGTH);
+    put_word(rec, 2, KIND);
+    rec[4] = s.n;
+    rec[MAP..15].copy_from_slice(&s.map);
+    rec[15] = 0;
 }
 
 // The two bytes of each number, from place `at` on. The others stay.
@@ -310,11 +279,7 @@ fn put_conditions(s: State, bytes: &mut [u8])
     requires { Begun s conditions_at bytes.old }
     ensures { Stored s bytes.old stars_at bytes.new }
 {
-    let mut x = 0;
-    while x < 1024 {
-        bytes[CONDITIONS + x] = s.conditions[x];
-        x += 1;
-    }
+    bytes[CONDITIONS..STARS].copy_from_slice(&s.conditions);
 }
 
 // The record that says a state.

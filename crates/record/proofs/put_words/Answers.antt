@@ -1,4 +1,3 @@
-use Rattle.std.proofs.Common.{arith}
 use Rattle.record.proofs.Stored.{laid_word}
 use Rattle.record.proofs.put_words.Goals as goal
 
