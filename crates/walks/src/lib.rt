@@ -2,18 +2,19 @@
 // Document 01, "Families and their order". Which labels are free is told by flags, 1 where a label is.
 #![tactic(auto)]
 
-ghost use Rattle.std.specs.Prelude.{◌≡◌, true, ◌&&◌, suc, ◌+◌, ◌-◌, ◌*◌, ◌%◌, ◌^◌, ◌≤◌, ◌<◌, min, eqb, length};
+ghost use Rattle.std.specs.Prelude.{◌≡◌, ℕ, true, ◌&&◌, suc, ◌+◌, ◌-◌, ◌*◌, ◌%◌, ◌^◌, ◌≤◌, ◌<◌, eqb, length};
 ghost use Rattle.hypercube.specs.Lists.{over};
 ghost use Rattle.hypercube.specs.Bits.{bit};
 ghost use Rattle.hypercube.specs.Gray.{G};
 ghost use Rattle.hypercube.specs.Subcubes.{is_free};
+ghost use Rattle.hypercube.specs.declared.Subcube.{Subcube};
 ghost use Rattle.hypercube.specs.Families.{buddy_member, buddy, gray_member, gray, tree_member, tree, further, more, extended, first_free};
 ghost use Rattle.hypercube.specs.Choice.{choice};
 ghost use Rattle.runs.specs.Flagged.{flagged};
 ghost use Rattle.runs.specs.Levels.{Level};
 ghost use Rattle.planes.specs.Rows.{NoMember};
 ghost use Rattle.walks.specs.Inside.{Inside, Testable, Highest};
-ghost use Rattle.walks.specs.Each.{each_member, each_count, each, Lent};
+ghost use Rattle.walks.specs.Each.{gray_at, gray_count, each, Lent};
 ghost use Rattle.walks.specs.Blocks.{tree_block, zero_digits, Row};
 ghost use Rattle.walks.specs.Open.{Leveled, Narrowed, Closed};
 
@@ -64,10 +65,7 @@ pub fn free(flags: &[u8; 1024], c: Subcube, k: u16) -> bool
     if rest + 1 == star {
         return runs::run_free(flags, low, star + star);
     }
-    let lower = Subcube {
-        low: Label(low),
-        stars: rest,
-    };
+    let lower = Subcube { stars: rest, ..c };
     let upper = Subcube {
         low: Label(above),
         stars: rest,
@@ -103,13 +101,6 @@ fn buddy_member(k: u16, alpha: u16) -> Subcube
     }
 }
 
-// The lesser of two.
-fn lesser(a: u16, b: u16) -> u16
-    ensures { result ≡ min a b }
-{
-    if a < b { a } else { b }
-}
-
 // The label at position b, by Gray's table.
 fn label_at(labels: &[u16], b: u16) -> Label
     requires { Lent (suc b) labels.now }
@@ -129,54 +120,93 @@ fn gray_member(labels: &[u16], m: u16, j: u16, alpha: u16) -> Subcube
     let b = label_at(labels, (alpha + 1) % pow2(m)).0;
     let unit = pow2(j);
     Subcube {
-        low: Label(lesser(a, b) * unit),
+        low: Label(a.min(b) * unit),
         stars: unit - 1 + (a ^ b) * unit,
     }
 }
 
-// Member α of a family that has one for each α: Gray's, for k below n, or buddy's, which needs no table.
-fn each_member(labels: &[u16], gray: bool, n: u16, k: u16, alpha: u16) -> Subcube
-    requires k_le_n { (k ≤ n) × (n ≤ 10) × (alpha < each_count gray n k) }
-    requires inside { Inside (each_member gray n k alpha) }
-    requires lent { gray ≡ true → Lent (each_count gray n k) labels.now }
-    ensures { result ≡ each_member gray n k alpha }
-{
-    if gray {
-        if k == 0 {
-            Subcube {
-                low: label_at(labels, alpha),
-                stars: 0,
-            }
-        } else {
-            gray_member(labels, n - (k - 1), k - 1, alpha)
-        }
-    } else {
-        buddy_member(k, alpha)
+// A family that has one member for each α.
+trait Family {
+    ghost at: { Self → ℕ → Subcube };
+
+    ghost total: { Self → ℕ };
+
+    // How many members it has.
+    fn count(&self) -> u16
+        ensures { result ≡ total self.now };
+
+    // Member α.
+    fn member(&self, alpha: u16) -> Subcube
+        requires alpha_lt { alpha < total self.now }
+        requires inside { Inside (at self.now alpha) }
+        ensures { result ≡ at self.now alpha };
+}
+
+// Buddy's, which needs no table.
+#[derive(Drop)]
+struct Buddy {
+    n: u16,
+    k: u16,
+    ghost k_le_n: { (k ≤ n) × (n ≤ 10) },
+}
+
+impl Family for Buddy {
+    ghost at = { λ b. buddy_member b.k };
+
+    ghost total = { λ b. 2 ^ (b.n - b.k) };
+
+    fn count(&self) -> u16 {
+        pow2(self.n - self.k)
+    }
+
+    fn member(&self, alpha: u16) -> Subcube {
+        buddy_member(self.k, alpha)
     }
 }
 
-// How many members such a family has.
-fn each_count(gray: bool, n: u16, k: u16) -> u16
-    requires { (k ≤ n) × (n ≤ 10) }
-    ensures { result ≡ each_count gray n k }
-{
-    if gray {
-        if k == 0 { pow2(n) } else { pow2(n - (k - 1)) }
-    } else {
-        pow2(n - k)
+// Gray's, for k below n, by the labels that it is lent.
+#[derive(Drop)]
+struct Gray<'a> {
+    labels: &'a [u16],
+    n: u16,
+    k: u16,
+    ghost k_le_n: { (k ≤ n) × (n ≤ 10) },
+    ghost lent: { Lent (gray_count n k) labels.now },
+}
+
+impl Family for Gray<'_> {
+    ghost at = { λ g. gray_at g.n g.k };
+
+    ghost total = { λ g. gray_count g.n g.k };
+
+    fn count(&self) -> u16 {
+        if self.k == 0 {
+            pow2(self.n)
+        } else {
+            pow2(self.n - (self.k - 1))
+        }
+    }
+
+    fn member(&self, alpha: u16) -> Subcube {
+        if self.k == 0 {
+            Subcube {
+                low: label_at(self.labels, alpha),
+                stars: 0,
+            }
+        } else {
+            gray_member(self.labels, self.n - (self.k - 1), self.k - 1, alpha)
+        }
     }
 }
 
 // The walk over such a family.
-fn each_walk(flags: &[u8; 1024], labels: &[u16], gray: bool, n: u16, k: u16) -> Walk
-    requires k_le_n { (k ≤ n) × (n ≤ 10) }
-    requires k_lt_n { gray ≡ true → k < n }
-    requires lent { gray ≡ true → Lent (each_count gray n k) labels.now }
-    ensures { result ≡ first_free (is_free (flagged flags.now)) (each gray n k) 0 }
+fn each_walk<F: Family>(flags: &[u8; 1024], family: &F, k: u16) -> Walk
+    requires testable { (α : ℕ) → α < F.total family.now → Testable k (F.at family.now α) }
+    ensures { result ≡ first_free (is_free (flagged flags.now)) (each (F.at family.now) (F.total family.now)) 0 }
 {
-    let count = each_count(gray, n, k);
+    let count = family.count();
     for alpha in 0..count {
-        let m = each_member(labels, gray, n, k, alpha);
+        let m = family.member(alpha);
         if member_free(flags, m, k) {
             return Walk::Found(m, alpha + 1);
         }
@@ -189,8 +219,7 @@ pub fn buddy_walk(flags: &[u8; 1024], n: u16, k: u16) -> Walk
     requires { (k ≤ n) × (n ≤ 10) }
     ensures { result ≡ first_free (is_free (flagged flags.now)) (buddy n k) 0 }
 {
-    let none = [0; 1];
-    each_walk(flags, &none, false, n, k)
+    each_walk(flags, &Buddy { n, k }, k)
 }
 
 // Gray: by position, and "At k = n there is one member", buddy's.
@@ -203,11 +232,11 @@ pub fn gray_walk(flags: &[u8; 1024], n: u16, k: u16) -> Walk
     }
     // What is lent is stored first, so a small cube's walk is lent few labels.
     if n <= 7 {
-        let first = gray::first_labels();
-        each_walk(flags, &first, true, n, k)
+        let labels = &gray::first_labels();
+        each_walk(flags, &Gray { labels, n, k }, k)
     } else {
-        let labels = gray::labels();
-        each_walk(flags, &labels, true, n, k)
+        let labels = &gray::labels();
+        each_walk(flags, &Gray { labels, n, k }, k)
     }
 }
 
@@ -243,8 +272,8 @@ fn tree_member(n: u16, d: u16, l: u16, alpha: u16, p: u16) -> Subcube
 {
     let lower = tree_block(n, d, l, alpha);
     Subcube {
-        low: Label(lower.low.0),
         stars: lower.stars + pow2(l + p),
+        ..lower
     }
 }
 
