@@ -22,7 +22,7 @@ pub fn holder_at(bytes: &[u8], x: Node) -> u16
     requires { (length bytes.now ≡ record_size) × (x.0 < 1024) }
     ensures { result ≡ get_or (decode bytes.now).holders x.0 0 }
 {
-    word(bytes, record::HOLDERS + 2 * usize::from(x.0))
+    record::holder_at(bytes, x.0)
 }
 
 // Node x's condition, read in place.
@@ -47,8 +47,7 @@ fn set_word(bytes: &mut [u8], at: usize, x: usize, v: u16)
     requires { Encoded bytes.old × ((x < 1024) × Words at) }
     ensures { bytes.new ≡ encode (with_words at (decode bytes.old) (set (words_of at (decode bytes.old)) x v)) }
 {
-    bytes[at + 2 * x] = (v % 256) as u8;
-    bytes[at + 2 * x + 1] = (v / 256) as u8;
+    record::put_word(bytes, at + 2 * x, v);
 }
 
 // The map, set in place.
