@@ -36,11 +36,10 @@ impl Stream {
         requires { self.filled + n < 2 ^ 64 }
         ensures { result ≡ took self n }
     {
-        let place = self.place;
         Stream {
-            place,
             filled: self.filled + n,
             last: n == 0,
+            ..self
         }
     }
 
@@ -48,18 +47,12 @@ impl Stream {
     pub fn wrote(self) -> Stream
         ensures { result ≡ wrote self }
     {
-        let p = self.place;
-        let tally = p.tally;
         Stream {
             place: Place {
-                at: p.at,
                 put: 0,
-                tally,
-                ended: p.ended,
-                waits: p.waits,
+                ..self.place
             },
-            filled: self.filled,
-            last: self.last,
+            ..self
         }
     }
 }
@@ -69,9 +62,7 @@ pub fn to_write(out: &[u8], s: Stream) -> &[u8]
     requires { s.place.put ≤ length out.now }
     ensures { result.now ≡ unwritten s out.now }
 {
-    let p = s.place;
-    let put = p.put;
-    &out[..put]
+    &out[..s.place.put]
 }
 
 // The log has ended at the place p: the counts follow its lines.
@@ -79,19 +70,15 @@ fn close(out: &mut [u8], s: Stream, p: Place) -> Stream
     requires { p.put + 88 ≤ length out.old }
     ensures { Closed s p out.old result out.new }
 {
-    let tally = p.tally;
-    let from = p.put;
-    let put = lines::put_totals(out, from, tally);
+    let put = lines::put_totals(out, p.put, p.tally);
     Stream {
         place: Place {
-            at: p.at,
             put,
-            tally,
             ended: true,
             waits: false,
+            ..p
         },
-        filled: s.filled,
-        last: s.last,
+        ..s
     }
 }
 
@@ -100,20 +87,17 @@ fn make_room(window: &mut [u8], s: Stream, p: Place) -> Stream
     requires { (p.at ≤ s.filled) × (s.filled ≤ length window.old) }
     ensures { Wanting s p window.old result window.new }
 {
-    let tally = p.tally;
-    let at = p.at;
-    let rest = s.filled - at;
-    log_text::to_front(window, at, rest);
+    let rest = s.filled - p.at;
+    log_text::to_front(window, p.at, rest);
     Stream {
         place: Place {
             at: 0,
-            put: p.put,
-            tally,
             ended: false,
             waits: true,
+            ..p
         },
         filled: rest,
-        last: s.last,
+        ..s
     }
 }
 
@@ -122,20 +106,13 @@ pub fn advance(rec: &mut [u8], window: &mut [u8], out: &mut [u8], s: Stream) -> 
     requires { Ready s (length window.old) (length out.old) }
     ensures { Advanced s rec.old window.old out.old result rec.new window.new out.new }
 {
-    let filled = s.filled;
-    let last = s.last;
-    let from = s.place;
     let room = out.len() - COUNTS;
-    let place = log_text::run(rec, &window[..filled], last, &mut out[..room], from);
+    let place = log_text::run(rec, &window[..s.filled], s.last, &mut out[..room], s.place);
     if place.ended {
         return close(out, s, place);
     }
     if place.waits {
         return make_room(window, s, place);
     }
-    Stream {
-        place,
-        filled,
-        last,
-    }
+    Stream { place, ..s }
 }
