@@ -361,6 +361,7 @@ pub fn tree_walk(flags: &[u8; 1024], n: u16, k: u16) -> Walk
 }
 
 // Extended's row of one α and d, "by p from 1", counted on from `before`, where the block of α is free.
+// The tree's loop over p is another: one for both would take each block's test as a closure, with clauses longer than the loop.
 fn row_walk(
     flags: &[u8; 1024],
     levels: &[u8; 2048],
