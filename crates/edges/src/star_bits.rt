@@ -1,186 +1,177 @@
 // The edges of star bits, document 02, (f): each node carries those of the grant that holds it, in node numbers, and an unheld one 0.
 // After the calls the holders and the star bits of nodes 0 to 7 are printed.
-use super::printed;
-use printed::{all_good, grow, hold, print_word, release, request};
+use super::printed::{
+    Record, all_good, call, calls, fault, fresh, good, grow, hold, leave, make_good,
+    one_and_five_silent, print_words, repaired, request,
+};
+use state::Call;
+use state::Call::{Relabel, Release};
 use std::io;
 
-fn print_holders(rt: &impl Print, rec: &[u8; record::SIZE]) -> io::Result<()> {
-    rt.write_all(b"holders:")?;
-    print_word(rt, rec[16], rec[17])?;
-    print_word(rt, rec[18], rec[19])?;
-    print_word(rt, rec[20], rec[21])?;
-    print_word(rt, rec[22], rec[23])?;
-    print_word(rt, rec[24], rec[25])?;
-    print_word(rt, rec[26], rec[27])?;
-    print_word(rt, rec[28], rec[29])?;
-    print_word(rt, rec[30], rec[31])?;
-    rt.write_all(b"\n")
-}
-
-fn print_stars(rt: &impl Print, rec: &[u8; record::SIZE]) -> io::Result<()> {
-    rt.write_all(b"star bits:")?;
-    print_word(rt, rec[3088], rec[3089])?;
-    print_word(rt, rec[3090], rec[3091])?;
-    print_word(rt, rec[3092], rec[3093])?;
-    print_word(rt, rec[3094], rec[3095])?;
-    print_word(rt, rec[3096], rec[3097])?;
-    print_word(rt, rec[3098], rec[3099])?;
-    print_word(rt, rec[3100], rec[3101])?;
-    print_word(rt, rec[3102], rec[3103])?;
-    rt.write_all(b"\n")
-}
-
-pub(crate) fn print_nodes(rt: &impl Print, rec: &[u8; record::SIZE]) -> io::Result<()> {
-    print_holders(rt, rec)?;
-    print_stars(rt, rec)
+pub(crate) fn print_nodes(rt: &impl Print, rec: &Record) -> io::Result<()> {
+    print!(rt; "holders:")?;
+    print_words(rt, &rec[16..32])?;
+    print!(rt; "star bits:")?;
+    print_words(rt, &rec[3088..3104])
 }
 
 // Those of nodes 0, 511, 512 and 1023.
-fn print_corners(rt: &impl Print, rec: &[u8; record::SIZE]) -> io::Result<()> {
-    rt.write_all(b"star bits of 0, 511, 512 and 1023:")?;
-    print_word(rt, rec[3088], rec[3089])?;
-    print_word(rt, rec[4110], rec[4111])?;
-    print_word(rt, rec[4112], rec[4113])?;
-    print_word(rt, rec[5134], rec[5135])?;
-    rt.write_all(b"\n")
+fn print_corners(rt: &impl Print, rec: &Record) -> io::Result<()> {
+    print!(rt; "star bits of 0, 511, 512 and 1023:")?;
+    let corners = [
+        rec[3088], rec[3089], rec[4110], rec[4111], rec[4112], rec[4113], rec[5134], rec[5135],
+    ];
+    print_words(rt, &corners)
 }
 
-fn relabel(rt: &impl Print, name: &[u8], rec: &mut [u8; record::SIZE]) -> io::Result<()> {
-    printed::call(rt, name, rec, b"\x04\x00\x03\x02")
+// Calls, with the nodes after each.
+fn shown(rt: &impl Print, rec: &mut Record, list: &[(&str, Call)]) -> io::Result<()> {
+    for (name, c) in list {
+        call(rt, name, rec, *c)?;
+        print_nodes(rt, rec)?;
+    }
+    Ok(())
 }
 
 // n 3, all good. Node 2 is held with star bits 0, node 3 is left out.
-fn grants(rt: &impl Print, rec: &mut [u8; record::SIZE]) -> io::Result<()> {
-    request(rt, b"n 3, request of k 1 by 7", rec, 7, 1, 0)?;
-    print_nodes(rt, rec)?;
-    request(rt, b"request of k 0 by 8", rec, 8, 0, 0)?;
-    request(rt, b"request of k 2 by 9", rec, 9, 2, 0)?;
+fn grants(rt: &impl Print, rec: &mut Record) -> io::Result<()> {
+    shown(rt, rec, &[("n 3, request of k 1 by 7", request(7, 1, 0))])?;
+    let list = [
+        ("request of k 0 by 8", request(8, 0, 0)),
+        ("request of k 2 by 9", request(9, 2, 0)),
+    ];
+    calls(rt, rec, &list)?;
     print_nodes(rt, rec)
 }
 
 // Refused calls leave star bits.
-fn refusals(rt: &impl Print, rec: &mut [u8; record::SIZE]) -> io::Result<()> {
-    request(rt, b"request of k 1 by 10", rec, 10, 1, 0)?;
-    request(rt, b"request of k 0 by 9", rec, 9, 0, 0)?;
-    grow(rt, b"growth of k 2 by 7", rec, 7, 2, 0)?;
-    grow(rt, b"growth of k 2 by 9", rec, 9, 2, 0)?;
-    release(rt, b"release by 10", rec, 10)?;
-    relabel(rt, b"relabel", rec)?;
+fn refusals(rt: &impl Print, rec: &mut Record) -> io::Result<()> {
+    let list = [
+        ("request of k 1 by 10", request(10, 1, 0)),
+        ("request of k 0 by 9", request(9, 0, 0)),
+        ("growth of k 2 by 7", grow(7, 2, 0)),
+        ("growth of k 2 by 9", grow(9, 2, 0)),
+        ("release by 10", Release(10)),
+        ("relabel", Relabel),
+    ];
+    calls(rt, rec, &list)?;
     print_nodes(rt, rec)
 }
 
 // So do reports, of a held node.
-fn reports(rt: &impl Print, rec: &mut [u8; record::SIZE]) -> io::Result<()> {
-    printed::fault(rt, b"fault 4, held by 9", rec, 4)?;
-    print_nodes(rt, rec)?;
-    printed::call(rt, b"repaired 4", rec, b"\x06\x00\x03\x01\x04\x00")?;
-    print_nodes(rt, rec)?;
-    printed::call(rt, b"good 4", rec, b"\x06\x00\x01\x01\x04\x00")?;
-    print_nodes(rt, rec)
+fn reports(rt: &impl Print, rec: &mut Record) -> io::Result<()> {
+    let list = [
+        ("fault 4, held by 9", fault(4)),
+        ("repaired 4", repaired(4)),
+        ("good 4", good(4)),
+    ];
+    shown(rt, rec, &list)
 }
 
-fn releases(rt: &impl Print, rec: &mut [u8; record::SIZE]) -> io::Result<()> {
-    release(rt, b"release by 7", rec, 7)?;
-    print_nodes(rt, rec)?;
-    release(rt, b"release by 8", rec, 8)?;
-    print_nodes(rt, rec)?;
-    release(rt, b"release by 9", rec, 9)?;
-    print_nodes(rt, rec)?;
-    relabel(rt, b"all good, relabel", rec)?;
-    print_nodes(rt, rec)
+fn releases(rt: &impl Print, rec: &mut Record) -> io::Result<()> {
+    let list = [
+        ("release by 7", Release(7)),
+        ("release by 8", Release(8)),
+        ("release by 9", Release(9)),
+        ("all good, relabel", Relabel),
+    ];
+    shown(rt, rec, &list)
 }
 
 // n 3: nodes 1 and 5 are silent, so direction 3 becomes the first.
-fn relabelled(rt: &impl Print, rec: &mut [u8; record::SIZE]) -> io::Result<()> {
-    printed::make_good(rec, 0);
-    printed::make_good_from(rec, 2, 5);
-    printed::make_good_from(rec, 6, 8);
-    relabel(rt, b"nodes 1 and 5 silent, relabel", rec)?;
-    request(rt, b"request of k 2 by 7", rec, 7, 2, 0)?;
-    request(rt, b"request of k 1 by 8", rec, 8, 1, 0)?;
+fn relabelled(rt: &impl Print, rec: &mut Record) -> io::Result<()> {
+    let list = [
+        ("nodes 1 and 5 silent, relabel", Relabel),
+        ("request of k 2 by 7", request(7, 2, 0)),
+        ("request of k 1 by 8", request(8, 1, 0)),
+    ];
+    calls(rt, rec, &list)?;
     print_nodes(rt, rec)?;
-    release(rt, b"release by 7", rec, 7)?;
-    grow(rt, b"growth of k 2 by 8", rec, 8, 2, 0)?;
+    let then = [
+        ("release by 7", Release(7)),
+        ("growth of k 2 by 8", grow(8, 2, 0)),
+    ];
+    calls(rt, rec, &then)?;
     print_nodes(rt, rec)
 }
 
 // 8 holds node 0, 7 nodes 1 and 3: growing it keeps 3 and leaves 1, then keeps all.
-fn overlapping(rt: &impl Print, rec: &mut [u8; record::SIZE]) -> io::Result<()> {
+fn overlapping(rt: &impl Print, rec: &mut Record) -> io::Result<()> {
     hold(rec, 8, 0);
-    request(rt, b"request of k 1 by 7, by Gray", rec, 7, 1, 1)?;
-    grow(rt, b"growth of k 3 by 7", rec, 7, 3, 1)?;
-    print_nodes(rt, rec)?;
-    grow(rt, b"growth of k 2 by 7, by Gray", rec, 7, 2, 1)?;
-    print_nodes(rt, rec)?;
-    printed::leave(rec, 8);
-    grow(rt, b"growth of k 3 by 7", rec, 7, 3, 1)?;
-    print_nodes(rt, rec)?;
-    release(rt, b"release by 7", rec, 7)?;
-    print_nodes(rt, rec)
+    call(rt, "request of k 1 by 7, by Gray", rec, request(7, 1, 1))?;
+    let list = [
+        ("growth of k 3 by 7", grow(7, 3, 1)),
+        ("growth of k 2 by 7, by Gray", grow(7, 2, 1)),
+    ];
+    shown(rt, rec, &list)?;
+    leave(rec, 8);
+    let then = [
+        ("growth of k 3 by 7", grow(7, 3, 1)),
+        ("release by 7", Release(7)),
+    ];
+    shown(rt, rec, &then)
 }
 
 // A node that is left may be faulty.
-fn faulty(rt: &impl Print, rec: &mut [u8; record::SIZE]) -> io::Result<()> {
-    request(rt, b"request of k 1 by 7", rec, 7, 1, 0)?;
-    printed::fault(rt, b"fault 1, held by 7", rec, 1)?;
-    grow(rt, b"growth of k 2 by 7", rec, 7, 2, 0)?;
+fn faulty(rt: &impl Print, rec: &mut Record) -> io::Result<()> {
+    let list = [
+        ("request of k 1 by 7", request(7, 1, 0)),
+        ("fault 1, held by 7", fault(1)),
+        ("growth of k 2 by 7", grow(7, 2, 0)),
+    ];
+    calls(rt, rec, &list)?;
     print_nodes(rt, rec)
 }
 
 // A record's holders and their star bits may be any: 7 holds 1, 2 and 4, and 8 holds 7.
-fn any_stars(rec: &mut [u8; record::SIZE]) {
-    rec[18] = 7;
-    rec[3090] = 9;
-    rec[20] = 7;
-    rec[3092] = 1;
-    rec[3093] = 2;
-    rec[24] = 7;
-    rec[3096] = 255;
-    rec[3097] = 255;
-    rec[30] = 8;
-    rec[3102] = 52;
-    rec[3103] = 18;
+fn any_stars(rec: &mut Record) {
+    let held = [0, 0, 7, 0, 7, 0, 0, 0, 7, 0, 0, 0, 0, 0, 8, 0];
+    let stars = [0, 0, 9, 0, 1, 2, 0, 0, 255, 255, 0, 0, 0, 0, 52, 18];
+    rec[16..32].copy_from_slice(&held);
+    rec[3088..3104].copy_from_slice(&stars);
 }
 
-fn grown(rt: &impl Print, rec: &mut [u8; record::SIZE]) -> io::Result<()> {
-    printed::fault(rt, b"any star bits, fault 5", rec, 5)?;
-    print_nodes(rt, rec)?;
-    grow(rt, b"any star bits, growth of k 2 by 7", rec, 7, 2, 0)?;
-    print_nodes(rt, rec)
+fn grown(rt: &impl Print, rec: &mut Record) -> io::Result<()> {
+    let list = [
+        ("any star bits, fault 5", fault(5)),
+        ("any star bits, growth of k 2 by 7", grow(7, 2, 0)),
+    ];
+    shown(rt, rec, &list)
 }
 
-fn released(rt: &impl Print, rec: &mut [u8; record::SIZE]) -> io::Result<()> {
-    release(rt, b"any star bits, release by 7", rec, 7)?;
-    print_nodes(rt, rec)?;
-    release(rt, b"any star bits, release by 8", rec, 8)?;
-    print_nodes(rt, rec)
+fn released(rt: &impl Print, rec: &mut Record) -> io::Result<()> {
+    let list = [
+        ("any star bits, release by 7", Release(7)),
+        ("any star bits, release by 8", Release(8)),
+    ];
+    shown(rt, rec, &list)
 }
 
 // n 10, all good: star bits of both bytes.
-fn halves(rt: &impl Print, rec: &mut [u8; record::SIZE]) -> io::Result<()> {
-    request(rt, b"n 10, request of k 9 by 1", rec, 1, 9, 0)?;
-    print_corners(rt, rec)?;
-    request(rt, b"request of k 9 by 65535", rec, 65535, 9, 0)?;
-    print_corners(rt, rec)?;
-    release(rt, b"release by 1", rec, 1)?;
-    print_corners(rt, rec)?;
-    grow(rt, b"growth of k 10 by 65535", rec, 65535, 10, 0)?;
-    print_corners(rt, rec)?;
-    release(rt, b"release by 65535", rec, 65535)?;
-    print_corners(rt, rec)
+fn halves(rt: &impl Print, rec: &mut Record) -> io::Result<()> {
+    let list = [
+        ("n 10, request of k 9 by 1", request(1, 9, 0)),
+        ("request of k 9 by 65535", request(65535, 9, 0)),
+        ("release by 1", Release(1)),
+        ("growth of k 10 by 65535", grow(65535, 10, 0)),
+        ("release by 65535", Release(65535)),
+    ];
+    for (name, c) in list {
+        call(rt, name, rec, c)?;
+        print_corners(rt, rec)?;
+    }
+    Ok(())
 }
 
 // n 10: nodes 0 and 512 alone are good.
-fn highest_direction(rt: &impl Print, rec: &mut [u8; record::SIZE]) -> io::Result<()> {
-    printed::make_good(rec, 0);
-    printed::make_good(rec, 512);
-    request(
+fn highest_direction(rt: &impl Print, rec: &mut Record) -> io::Result<()> {
+    make_good(rec, 0);
+    make_good(rec, 512);
+    call(
         rt,
-        b"0 and 512 good, request of k 1 by 7, by tree",
+        "0 and 512 good, request of k 1 by 7, by tree",
         rec,
-        7,
-        1,
-        2,
+        request(7, 1, 2),
     )?;
     print_corners(rt, rec)
 }
@@ -191,8 +182,7 @@ fn from_fresh(rt: &impl Print) -> io::Result<()> {
     refusals(rt, &mut rec)?;
     reports(rt, &mut rec)?;
     releases(rt, &mut rec)?;
-    let mut other = printed::buffer();
-    cube::cube_setup(&mut other, 3);
+    let mut other = one_and_five_silent();
     relabelled(rt, &mut other)
 }
 
@@ -213,7 +203,6 @@ pub(crate) fn star_bits(rt: &impl Print) -> io::Result<()> {
     from_others(rt)?;
     let mut large = all_good(10, 1024);
     halves(rt, &mut large)?;
-    let mut silent = printed::buffer();
-    cube::cube_setup(&mut silent, 10);
+    let mut silent = fresh(10);
     highest_direction(rt, &mut silent)
 }
