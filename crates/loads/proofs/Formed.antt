@@ -3,7 +3,9 @@ use Prim.Native.Nat.{ℕ, ◌^◌, ◌≤◌}
 use mathlib.Core.Path.{◌≡◌, sym, ◌∙◌}
 use mathlib.Core.Bool.{Bool, true, false, ◌&&◌}
 use mathlib.Core.List.{List}
+use native.Mathlib.Omega.{arith}
 use lib.ListN.{length}
+use lib.Pow.{pow_mono}
 use Rattle.hypercube.specs.Lists.{all_below}
 use Rattle.hypercube.specs.Tests.{same_test}
 use Rattle.hypercube.specs.ByNodes.{formed_by_nodes}
@@ -20,6 +22,10 @@ module _ (r : List ℕ) (valid : valid_record r ≡ true) where
 
   pub small : dimension_of r ≤ 10
   small = ((means_valid (decode r) (sized-decode r).directions).holds (record_says r valid).state).small
+
+  -- the number N of nodes, by the dimension n that was read
+  pub few_nodes : {n N : ℕ} → n ≡ dimension_of r → N ≡ 2 ^ n → N ≤ 1024
+  few_nodes en eN = rw eN (pow_mono {j = 10} (omega (arith, en, small)))
 
   two_passes : all_below (whole_at r (dimension_of r)) (2 ^ dimension_of r) && all_below (alone_at r) (2 ^ dimension_of r) ≡ (formed_record r).test
   two_passes =

@@ -2,7 +2,7 @@
 // which looks at one other node; the last, in the smallest cubes, at those before.
 #![tactic(auto)]
 
-ghost use Rattle.std.specs.Prelude.{◌≡◌, true, not, cond, ◌<◌, ◌≤◌, length};
+ghost use Rattle.std.specs.Prelude.{◌≡◌, true, not, ◌<◌, ◌≤◌, length};
 ghost use Rattle.hypercube.specs.Lists.{all_below, any_below, count_below};
 ghost use Rattle.hypercube.specs.ByNodes.{lower, next};
 ghost use Rattle.record.specs.Layout.{record_size, valid_record};
@@ -10,19 +10,7 @@ ghost use Rattle.record.specs.Says.{says, formed_record};
 ghost use Rattle.loads.specs.Pass.{is_like, is_whole, is_lowest, is_alone, whole_at, lowest_at, lowest_for, alone_at};
 ghost use Rattle.loads.specs.Marks.{is_marked, MarkedIf};
 
-fn holder_at(bytes: &[u8], x: u16) -> u16
-    requires { (length bytes.now ≡ record_size) × (x < 1024) }
-    ensures { result ≡ (says bytes.now).holder x }
-{
-    record::word(bytes, record::HOLDERS + 2 * usize::from(x))
-}
-
-fn stars_at(bytes: &[u8], x: u16) -> u16
-    requires { (length bytes.now ≡ record_size) × (x < 1024) }
-    ensures { result ≡ (says bytes.now).stars x }
-{
-    record::word(bytes, record::STARS + 2 * usize::from(x))
-}
+use record::{holder_at, stars_at};
 
 // Whether node y has this holder and these star bits.
 fn is_like(bytes: &[u8], y: u16, holder: u16, stars: u16) -> bool

@@ -1,6 +1,6 @@
-use Rattle.std.proofs.Common.{◌≤◌, arith, rules, ◌∙◌}
-use lib.Pow.{pow_mono}
-use Rattle.loads.proofs.Formed.{long, small, not_whole, by_alone}
+use Rattle.std.proofs.Common.{◌≡◌, arith, rules, ◌∙◌}
+use Rattle.record.specs.Says.{dimension_of}
+use Rattle.loads.proofs.Formed.{long, small, few_nodes, not_whole, by_alone}
 use Rattle.loads.proofs.is_formed.Goals as goal
 
 pub dimension-requires : goal.dimension-requires
@@ -11,8 +11,9 @@ pow2-size-requires c = omega (arith, c.dimension.ensures, c.from-n.ensures, smal
 
 pub all_whole-requires : goal.all_whole-requires
 all_whole-requires c =
-    let few : c.from-n.result ≤ 10 = omega (arith, c.dimension.ensures, c.from-n.ensures, small _ c.requires) in
-    (long _ c.requires, (few, rw c.pow2-size.ensures (pow_mono {j = 10} few)))
+    let n : c.from-n.result ≡ dimension_of c.args.bytes.now = c.from-n.ensures ∙ c.dimension.ensures in
+    let few = few_nodes _ c.requires n c.pow2-size.ensures in
+    (long _ c.requires, (omega (arith, small _ c.requires), omega (arith, small _ c.requires)))
 
 pub returns-then-not-all_whole : goal.returns-then-not-all_whole
 returns-then-not-all_whole c =
@@ -20,8 +21,7 @@ returns-then-not-all_whole c =
 
 pub one_lowest-requires : goal.one_lowest-requires
 one_lowest-requires c =
-    let few : c.from-n.result ≤ 10 = omega (arith, c.dimension.ensures, c.from-n.ensures, small _ c.requires) in
-    (long _ c.requires, rw c.pow2-size.ensures (pow_mono {j = 10} few))
+    (long _ c.requires, few_nodes _ c.requires (c.from-n.ensures ∙ c.dimension.ensures) c.pow2-size.ensures)
 
 pub returns : goal.returns
 returns c =
