@@ -13,7 +13,7 @@ use Rattle.hypercube.specs.Lists.{In, among, from}
 use Rattle.hypercube.proofs.Bits.{lt_or}
 use Rattle.hypercube.proofs.Lists.{length_of, get_or_each}
 use Rattle.hypercube.specs.Tests.{cases, either_way, refutes, same_test}
-use Rattle.history.specs.Account.{History, put, put_all, wipe, with_held, lose, take_over}
+use Rattle.history.specs.Account.{put, put_all, wipe, with_held, lose, take_over}
 use Rattle.hypercube.specs.Conditions.{means_among}
 use Rattle.state.specs.declared.State.{State}
 use Rattle.state.specs.States.{given, cleared, lost, taken}

@@ -44,7 +44,7 @@ pub fn node_count(n: u8) -> usize
     requires { n ≤ 10 }
     ensures { (result ≡ 2 ^ n) × (result ≤ 1024) }
 {
-    hypercube::pow2(n as u16) as usize
+    usize::from(hypercube::pow2(u16::from(n)))
 }
 
 // Whether entry i of the map is none of those before it.
@@ -52,14 +52,7 @@ fn differs(map: &[u8; 10], i: usize) -> bool
     requires { i < 10 }
     ensures { result ≡ all_below (λ j. not (eqb (get_or map.now j 0) (get_or map.now i 0))) i }
 {
-    let e = map[i];
-    let mut right = true;
-    let mut j = 0;
-    while j < i {
-        right = right & (map[j] != e);
-        j += 1;
-    }
-    right
+    map[..i].iter().all(|d| *d != map[i])
 }
 
 // Whether entry i is right: "map entries above n are i itself, the first n permute 1 to n".
@@ -67,30 +60,17 @@ fn entry_right(map: &[u8; 10], n: u8, i: usize) -> bool
     requires { i < 10 }
     ensures { result ≡ entry_right map.now n i }
 {
-    let e = map[i];
-    if i < n as usize {
-        if e < 1 {
-            return false;
-        }
-        if n < e {
-            return false;
-        }
-        differs(map, i)
+    if i < usize::from(n) {
+        1 <= map[i] && map[i] <= n && differs(map, i)
     } else {
-        e == (i + 1) as u8
+        usize::from(map[i]) == i + 1
     }
 }
 
 fn entries_right(map: &[u8; 10], n: u8) -> bool
     ensures { result ≡ map_right map.now n }
 {
-    let mut right = true;
-    let mut i = 0;
-    while i < 10 {
-        right = right & entry_right(map, n, i);
-        i += 1;
-    }
-    right
+    (0..10).all(|i| entry_right(map, n, i))
 }
 
 // Whether the map is right. The identity, which most records have, is so for every n.
@@ -107,7 +87,7 @@ impl State {
     {
         State {
             n,
-            map: [1, 2, 3, 4, 5, 6, 7, 8, 9, 10],
+            map: labels::IDENTITY,
             holders: [0; 1024],
             conditions: [0; 1024],
             stars: [0; 1024],
@@ -127,13 +107,7 @@ pub fn number(r: Reply) -> u16
     ensures { result ≡ number_of r }
 {
     match r {
-        Reply::Granted {
-            job: _,
-            low: _,
-            stars: _,
-            tried: _,
-        } => 0,
-        Reply::Refused { number, tried: _ } => number,
-        Reply::Done(_) => 0,
+        Reply::Refused { number, .. } => number,
+        Reply::Granted { .. } | Reply::Done(_) => 0,
     }
 }
