@@ -174,7 +174,9 @@ fn items(text: &str) -> Vec<(String, String)> {
             owner = second.to_string();
         } else if line.starts_with('}') {
             owner.clear();
-        } else if ["fn", "struct", "enum", "const", "static", "type", "mod"].contains(&first) {
+        } else if ["fn", "struct", "enum", "trait", "const", "static", "type", "mod"]
+            .contains(&first)
+        {
             found.push((owner.clone(), second.to_string()));
         }
     }
