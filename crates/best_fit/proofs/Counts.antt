@@ -1,7 +1,7 @@
 -- How many numbers below N pass a test, and the first that does, as loops find them. Assumes nothing.
 use Prim.Native.Nat.{ℕ, zero, suc, ◌+◌, ◌*◌, ◌<◌, ◌≤◌, min}
 use mathlib.Core.Logic.{◌≢◌}
-use mathlib.Core.Path.{◌≡◌, refl, ap, ap₂, ◌∙◌}
+use mathlib.Core.Path.{◌≡◌, refl, ap, ◌∙◌}
 use mathlib.Core.Bool.{Bool, true, false, not, cond, ◌&&◌}
 use native.Mathlib.Decide.{ℕ_discrete}
 use native.Mathlib.Numerals.{add-one}
@@ -72,12 +72,6 @@ pub first_more : (test : ℕ → Bool) (i : ℕ) → min (first_below i test) (p
 unfolding first_below
 first_more test i = rw (add-one i) (least (first_below i test) (placed (test i) i))
 
-pub first_same : (N : ℕ) (p q : ℕ → Bool) → ((x : ℕ) → x < N → p x ≡ q x) → first_below N p ≡ first_below N q
-unfolding first_below
-first_same zero p q h = refl
-first_same (suc N) p q h =
-    ap₂ (λ (k : ℕ) (b : Bool). lesser k (placed b N)) (first_same N p q (λ x l. h x (omega arith))) (h N (omega arith))
-
 -- what is first: it passes, none before it does, and it is below N unless none passes
 pub record First (test : ℕ → Bool) (N r : ℕ) : Type 0 where
   pub passes : r < 512 → test r ≡ true
@@ -115,7 +109,7 @@ is_first test (suc N) h = go (test N) refl (first_below N test) (is_first test N
         last x l (yes i) e = ap test i ∙ t
         last x l (no i) e = F.before x (omega arith) (omega (arith, ltb-false r 512 e))
 
-pub none_passes : (test : ℕ → Bool) (N : ℕ) → ((x : ℕ) → x < N → test x ≡ false) → count_below N test ≡ 0
+none_passes : (test : ℕ → Bool) (N : ℕ) → ((x : ℕ) → x < N → test x ≡ false) → count_below N test ≡ 0
 unfolding count_below
 none_passes test zero h = refl
 none_passes test (suc N) h = rw (h N (omega arith)) (omega (arith, none_passes test N (λ x l. h x (omega arith))))

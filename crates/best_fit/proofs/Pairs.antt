@@ -1,5 +1,5 @@
 -- Entries of 0 and 1, and pairs of them as one number. Assumes nothing.
-use Prim.Native.Nat.{ℕ, ◌+◌, ◌*◌, ◌/◌, ◌<◌, ◌≤◌}
+use Prim.Native.Nat.{ℕ, ◌+◌, ◌*◌, ◌/◌, ◌<◌}
 use mathlib.Core.Path.{◌≡◌, refl, sym, ap, ap₂, ◌∙◌}
 use mathlib.Core.Bool.{Bool, true, false, not, cond, ◌&&◌}
 use mathlib.Core.List.{List}
@@ -11,7 +11,6 @@ use Rattle.runs.specs.Flagged.{flagged}
 use Rattle.runs.proofs.Levels.{flag_of_lem}
 use Rattle.best_fit.specs.Entries.{Entries, ZeroOne}
 use Rattle.best_fit.specs.Seen.{placed}
-use Rattle.best_fit.proofs.Counts.{one_le}
 
 -- an entry, read as a flag, tells what it stands for
 pub told : (g : ℕ → Bool) (N : ℕ) (ls : List ℕ) → Entries g N ls → (x : ℕ) → x < N → flagged ls x ≡ g x
@@ -21,26 +20,23 @@ pub zero_one : (g : ℕ → Bool) (N : ℕ) (ls : List ℕ) → Entries g N ls �
 zero_one g N ls E x l = E x l ∙ ap (λ (b : Bool). cond b 1 0) (sym (told g N ls E x l))
 
 -- two entries as one number
-abbrev pub pair_of : Bool → Bool → ℕ
+abbrev pair_of : Bool → Bool → ℕ
 pair_of a b = cond a 1 0 + 256 * cond b 1 0
 
-pub pair_both : (a b : Bool) → (pair_of a b + 255) / 512 ≡ cond (a && b) 1 0
+pair_both : (a b : Bool) → (pair_of a b + 255) / 512 ≡ cond (a && b) 1 0
 pair_both true true = refl
 pair_both true false = refl
 pair_both false true = refl
 pair_both false false = refl
 
-pub pair-lone : (a b : Bool) → leb 1 (pair_of a b) && leb (pair_of a b) 256 ≡ cond a (not b) b
+pair-lone : (a b : Bool) → leb 1 (pair_of a b) && leb (pair_of a b) 256 ≡ cond a (not b) b
 pair-lone true true = refl
 pair-lone true false = refl
 pair-lone false true = refl
 pair-lone false false = refl
 
-pub pair_small : (a b : Bool) → pair_of a b ≤ 257
-pair_small a b = omega (arith, one_le a, one_le b)
-
 -- the pair at x, of entries of 0 and 1
-pub pair_at : (N x : ℕ) (ls : List ℕ) → ZeroOne (2 * N) ls → x < N
+pair_at : (N x : ℕ) (ls : List ℕ) → ZeroOne (2 * N) ls → x < N
     → get_or ls (2 * x) 0 + 256 * get_or ls (2 * x + 1) 0 ≡ pair_of (flagged ls (2 * x)) (flagged ls (2 * x + 1))
 pair_at N x ls Z l = ap₂ (λ (a b : ℕ). a + 256 * b) (Z (2 * x) (omega arith)) (Z (2 * x + 1) (omega arith))
 

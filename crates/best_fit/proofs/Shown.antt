@@ -38,7 +38,7 @@ use Rattle.best_fit.proofs.Pairs.{told, zero_one, joined_same, lone_same, half_s
 -- ---- one level after the other
 
 -- a level has twice the pairs' number
-pub level_pairs : (n d : ℕ) → d < n → 2 ^ (n - d) ≡ 2 * 2 ^ (n - d - 1)
+level_pairs : (n d : ℕ) → d < n → 2 ^ (n - d) ≡ 2 * 2 ^ (n - d - 1)
 level_pairs n d h = let e : n - d ≡ suc (n - d - 1) = omega arith in ap (λ (z : ℕ). 2 ^ z) e ∙ pow-succ' 2 (n - d - 1)
 
 -- the pairs of level d, in labels

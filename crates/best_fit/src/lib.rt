@@ -25,9 +25,8 @@ fn first_level(flags: &[u8; 1024], count: u16, level: &mut [u8; 1024]) -> u16
     requires { count ≤ 1024 }
     ensures { Laid (flagged flags.now) count 1024 result level.new }
 {
-    let size = count as usize;
     let mut free: u16 = 0;
-    for x in 0..size {
+    for x in 0..usize::from(count) {
         let entry = indicator(flags[x]);
         level[x] = entry;
         free += u16::from(entry);
@@ -48,9 +47,8 @@ fn join(level: &[u8; 1024], count: u16, above: &mut [u8; 512]) -> u16
     requires { (count ≤ 512) × ZeroOne (2 * count) level.now }
     ensures { Laid (joined (flagged level.now)) count 512 result above.new }
 {
-    let size = count as usize;
     let mut free: u16 = 0;
-    for x in 0..size {
+    for x in 0..usize::from(count) {
         let entry = (pair(level[2 * x], level[2 * x + 1]) + 255) / 512;
         above[x] = entry as u8;
         free += entry;
@@ -63,11 +61,11 @@ fn rise(above: &[u8; 512], count: u16, level: &mut [u8; 1024])
     requires { count ≤ 512 }
     ensures { Risen above.now count level.new }
 {
-    let size = count as usize;
+    let size = usize::from(count);
     level[..size].copy_from_slice(&above[..size]);
 }
 
-// The place of a pair with one free half alone; of another, 512, which is beyond all: the least of numbers is vector code, that of `Option`s isn't.
+// The place of a pair with one free half alone; of another, 512, which is beyond all and is what the definition `first_below` has for none.
 fn place(halves: u16, x: u16) -> u16
     ensures { result ≡ placed (leb 1 halves && leb halves 256) x }
 {
@@ -81,7 +79,7 @@ fn first_lone(level: &[u8; 1024], count: u16) -> u16
 {
     let mut first: u16 = 512;
     for x in 0..count {
-        let at = 2 * (x as usize);
+        let at = 2 * usize::from(x);
         first = first.min(place(pair(level[at], level[at + 1]), x));
     }
     first
@@ -92,7 +90,7 @@ fn free_half(level: &[u8; 1024], x: u16) -> u16
     requires { x < 512 }
     ensures { result ≡ free_half (flagged level.now) x }
 {
-    let at = 2 * (x as usize);
+    let at = 2 * usize::from(x);
     if level[at] == 1 { 2 * x } else { 2 * x + 1 }
 }
 

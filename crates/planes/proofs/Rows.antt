@@ -21,9 +21,6 @@ use Rattle.planes.proofs.Folds.{folded_next, folded_none, empty_pair, empty_acro
 pub tops-low : (n d l : ℕ) → l + d ≤ n → ZeroBelow l (tops n d)
 tops-low n d l h i b = shifted_low (2 ^ d - 1) (n - d) i (omega arith)
 
-pub tops_none : (f : ℕ → Bool) (bs : List ℕ) (n : ℕ) → Folded f 0 bs → Folded f (tops n 0) bs
-tops_none f bs n F = let e : 0 ≡ tops n 0 = omega arith in subst (λ (s : ℕ). Folded f s bs) e F
-
 module _ (f : ℕ → Bool) (bs : List ℕ) (n d l : ℕ) (h : l + d < n) (w : n ≤ width) (F : Folded f (tops n d + (2 ^ l - 1)) bs) where
   member_none : (α p : ℕ) → p < n - l - d → α < 2 ^ (n - l - d) → bit α p ≡ 0 → NoPair (l + p) bs → is_free f (tree_member n d l α p) ≡ false
   member_none α p b v z N =
@@ -79,9 +76,6 @@ pub record Looked (f : ℕ → Bool) (n low d mask : ℕ) (bs : List ℕ) : Type
   pub small : mask < 2 ^ d
   pub none : (e : ℕ) → 1 ≤ e → e < d → bit mask e ≡ 0 → NoMember f n e (low - e) 1
   pub folded : Folded f (tops n (d - 1)) bs
-
-pub looked_start : (f : ℕ → Bool) (n low : ℕ) (bs : List ℕ) → Folded f 0 bs → Looked f n low 1 0 bs
-looked_start f n low bs F = record { small = omega arith; none = λ e a b. absurd (omega arith); folded = tops_none f bs n F }
 
 module _ {f : ℕ → Bool} {n low d mask : ℕ} {bs : List ℕ} (cs : List ℕ) (a : 1 ≤ d) (b : d ≤ low) (h : low < n) (w : n ≤ width)
     (L : Looked f n low d mask bs) (A : Across (n - d) bs cs) where

@@ -45,7 +45,7 @@ fn star_low(from: &[u8; 192], star: u8) -> [u8; 192]
     requires { star ≤ 64 }
     ensures { (i : ℕ) → i < 7 → star ≡ 2 ^ i → Across i from.now result }
 {
-    let step = star as usize;
+    let step = usize::from(star);
     let mut to = [0; 192];
     for e in 0..128 {
         to[e] = from[e] & from[e + step] & keep(e as u8, star);
@@ -65,7 +65,7 @@ fn star_high(from: &[u8; 192], shift: u8, kept: u8) -> [u8; 192]
     to
 }
 
-// Across the star 2^i.
+// Across the star 2^i. Each of the highest three has its shift and its mask, which follow no plainer rule than these three lines.
 fn fold_star(from: &[u8; 192], i: u16) -> [u8; 192]
     requires { i < 10 }
     ensures { Across i from.now result }

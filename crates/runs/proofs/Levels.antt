@@ -2,13 +2,12 @@
 use Prim.Native.Nat.{ℕ, zero, suc, ◌+◌, ◌-◌, ◌*◌, ◌^◌, ◌<◌, ◌≤◌}
 use mathlib.Core.Logic.{⊎_elim}
 use mathlib.Core.Path.{◌≡◌, refl, sym, ap, ap₂, subst, ◌∙◌}
-use mathlib.Core.Bool.{Bool, true, false, not, cond, ◌&&◌}
+use mathlib.Core.Bool.{Bool, true, false, cond, ◌&&◌}
 use mathlib.Core.List.{List}
 use native.Mathlib.Nat.{pow-succ', mul-le-mul_right}
 use native.Mathlib.Numerals.{add-one}
 use native.Mathlib.Omega.{arith}
 use borrow.Author.Count.{below_more}
-use borrow.Author.Tests.{eqb-true, not-false}
 use lib.Bits.{bit_or, or_add_and, and_le_l, and_le_r}
 use lib.Dec.{eqb}
 use lib.ListN.{length, get_or, set, length-set}
@@ -112,23 +111,6 @@ pub flag_of_lem : (t : Bool) → eqb (cond t 1 0) 1 ≡ t
 flag_of_lem true = refl
 flag_of_lem false = refl
 
--- the loop that makes level d has passed all of it
-module _ (n d : ℕ) {ls l : List ℕ} (L : Laid ls (level_start n d) (both_at ls (level_start n (d - 1)) (2 ^ (n - d))) (2 ^ (n - d)) l) where
-  pub next_made : (some : ℕ) → (some ≡ 0 → (k : ℕ) → k < 2 ^ (n - d) → both_at ls (level_start n (d - 1)) (2 ^ (n - d)) k ≡ 0)
-      → NextLevel n d ls (not (eqb some 0)) l
-  next_made some none = record {
-    long = L.long;
-    made = λ x h.
-        let start = level_start n (d - 1) in
-        let size = 2 ^ (n - d) in
-        let e : start + size + x ≡ start + (x + size) = omega arith in
-        ap (λ (v : ℕ). eqb v 1) (L.front x h)
-        ∙ flag_of_lem (flagged ls (start + x) && flagged ls (start + size + x))
-        ∙ ap (λ (y : ℕ). flagged ls (start + x) && flagged ls y) e;
-    kept = L.below;
-    empty = λ o x h. ap (λ (v : ℕ). eqb v 1) (L.front x h ∙ none (eqb-true some 0 (not-false (eqb some 0) o)) x h);
-  }
-
 -- ---- the levels, one more
 
 -- level 0 is the flags, for which there is room
@@ -205,6 +187,10 @@ in_level n d l α h v =
     let e : n - l - d + l ≡ n - d = omega arith in
     let more : (α + 1) * 2 ^ l ≤ 2 ^ (n - l - d) * 2 ^ l = mul-le-mul_right (2 ^ l) (omega arith) in
     omega (arith, more, rw e at (pow-add 2 (n - l - d) l))
+
+pub block_inside : (n d l α : ℕ) → l + d ≤ n → n ≤ width → α < 2 ^ (n - l - d)
+    → (level_start n d + α * 2 ^ l + 2 ^ l ≤ 2048) × (1 ≤ 2 ^ l)
+block_inside n d l α h w v = (omega (arith, in_level n d l α h v, level_fits n d w), pow_pos l)
 
 -- that of α, whose stars are the top d and the bottom l
 pub block_run : (f : ℕ → Bool) (n d l α : ℕ) (ls : List ℕ) → l + d ≤ n → n ≤ width → α < 2 ^ (n - l - d) → Level f n d ls

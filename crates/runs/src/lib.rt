@@ -27,8 +27,8 @@ pub fn run_free(flags: &[u8], low: u16, count: u16) -> bool
     requires { low + count ≤ length flags.now }
     ensures { result ≡ run_free (flagged flags.now) low count }
 {
-    let start = low as usize;
-    let size = count as usize;
+    let start = usize::from(low);
+    let size = usize::from(count);
     let mut lacking: u8 = 0;
     for flag in &flags[start..start + size] {
         lacking |= lack(*flag);
@@ -57,8 +57,8 @@ fn first_level(flags: &[u8; 1024], n: u16, levels: &mut [u8; 2048])
     requires { n ≤ 10 }
     ensures { Made (flagged flags.now) n 1 0 levels.new }
 {
-    let start = level_start(n, 0) as usize;
-    let size = pow2(n) as usize;
+    let start = usize::from(level_start(n, 0));
+    let size = usize::from(pow2(n));
     levels[start..start + size].copy_from_slice(&flags[..size]);
 }
 
@@ -68,9 +68,9 @@ fn next_level(levels: &mut [u8; 2048], n: u16, d: u16) -> bool
     requires { (1 ≤ d) × (d ≤ n) × (n ≤ 10) }
     ensures { NextLevel n d levels.old result levels.new }
 {
-    let before = level_start(n, d - 1) as usize;
-    let start = level_start(n, d) as usize;
-    let size = pow2(n - d) as usize;
+    let before = usize::from(level_start(n, d - 1));
+    let start = usize::from(level_start(n, d));
+    let size = usize::from(pow2(n - d));
     let mut some: u8 = 0;
     for x in 0..size {
         let flag = both(levels[before + x], levels[before + size + x]);
@@ -104,6 +104,6 @@ pub fn block_at(levels: &[u8; 2048], n: u16, d: u16, l: u16, alpha: u16) -> bool
 {
     let unit = pow2(l);
     let first = level_start(n, d) + alpha * unit;
-    let at = first as usize;
+    let at = usize::from(first);
     levels[at] == 1 && run_free(levels, first, unit)
 }

@@ -14,5 +14,5 @@ loop-x-preserved c =
     let x = c.loop-x.x in
     let f = flagged c.args.level.now in
     let p : c.place.result ≡ placed (lone f x) x =
-    place_at c.args.count x c.args.level.now _ c.requires.1 (omega arith) c.pair.ensures c.place.ensures in
+    place_at c.args.count x c.args.level.now _ c.requires.1 (omega arith) (rw c.from-at.ensures at c.pair.ensures) c.place.ensures in
     c.min-first.ensures ∙ ap₂ min c.loop-x.invariant p ∙ first_more (lone f) x

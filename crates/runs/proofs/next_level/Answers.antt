@@ -15,9 +15,9 @@ pub loop-x-preserved : goal.loop-x-preserved
 loop-x-preserved c =
     let I = c.loop-x.invariant in
     let x = c.loop-x.x in
-    let from = c.level_start-before.result in
-    let made : c.both-flag.result ≡ both_at c.args.levels.now from c.pow2-size.result x =
-    c.both-flag.ensures ∙ ap₂ both_flags (I.laid.below (from + x) (omega arith)) (I.laid.below (from + c.pow2-size.result + x) (omega arith)) in
+    let from = c.from-before.result in
+    let made : c.both-flag.result ≡ both_at c.args.levels.now from c.from-size.result x =
+    c.both-flag.ensures ∙ ap₂ both_flags (I.laid.below (from + x) (omega arith)) (I.laid.below (from + c.from-size.result + x) (omega arith)) in
     record {
       laid = laid_next _ I.laid (omega arith) made;
       none = none_more _ c.loop-x.some x _ made I.none;

@@ -4,9 +4,9 @@ use Rattle.runs.proofs.Runs.{run_none, run_flag}
 use Rattle.runs.proofs.run_free.Goals as goal
 
 pub loop-flag-init : goal.loop-flag-init
-loop-flag-init c = sym (run_none (flagged c.args.flags.now) c.args.low)
+loop-flag-init c = sym (run_none (flagged c.args.flags.now) c.from-start.result)
 
 pub loop-flag-preserved : goal.loop-flag-preserved
 loop-flag-preserved c =
     let l = c.loop-flag in
-    run_flag c.args.flags.now c.args.low _ l.flag-index l.lacking _ (omega arith) c.lack-lacking.ensures l.invariant
+    run_flag c.args.flags.now c.from-start.result _ l.flag-index l.lacking _ (omega arith) c.lack-lacking.ensures l.invariant

@@ -4,4 +4,4 @@ use Rattle.runs.specs.Flagged.{flagged, run_free}
 use Rattle.runs.proofs.run_free.Given as goal
 
 abbrev pub invariant-loop-flag : goal.invariant-loop-flag
-invariant-loop-flag l = eqb l.lacking 0 ≡ run_free (flagged l.flags) l.low l.flag-index
+invariant-loop-flag l = eqb l.lacking 0 ≡ run_free (flagged l.flags) l.start l.flag-index
