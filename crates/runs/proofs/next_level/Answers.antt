@@ -1,5 +1,4 @@
-use Rattle.std.proofs.Common.{◌-◌}
-use Rattle.std.proofs.Common.{◌≡◌, ◌+◌, arith, ◌∙◌, ap₂}
+use Rattle.std.proofs.Common.{◌≡◌, ◌+◌, ◌-◌, arith, ◌∙◌, ap₂}
 use Rattle.runs.specs.Levels.{both_flags}
 use Rattle.runs.proofs.Levels.{laid_none, laid_next, level_fits, twice, both_at, none_more}
 use Rattle.runs.proofs.next_level.Goals as goal
