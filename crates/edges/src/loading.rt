@@ -37,7 +37,7 @@ fn sizes(rt: &impl Print) -> io::Result<()> {
     load(rt, "no bytes, load", b"")
 }
 
-// A record with another byte at a place, loaded.
+// A record with another byte at a place, loaded. Each is a call and not a row of a table, where no row shows that its place is in the record.
 fn changed(rt: &impl Print, name: &str, rec: &Record, at: usize, byte: u8) -> io::Result<()>
     requires { at < 5136 }
 {

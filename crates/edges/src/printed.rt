@@ -49,7 +49,7 @@ pub(crate) fn with_byte(rec: &Record, at: usize, byte: u8) -> Record
     other
 }
 
-// The rest of a line: words of two bytes, low byte first.
+// The rest of a line: words of two bytes, low byte first; as in `value_table`, for a library's contract could not tell what is printed.
 pub(crate) fn print_words(rt: &impl Print, bytes: &[u8]) -> io::Result<()> {
     let (words, _) = bytes.as_chunks();
     for word in words {

@@ -20,6 +20,7 @@ fn spread(n: u8, a: u8, b: u8) -> [u8; 10]
 {
     let mut map: [u8; 10] = [1, 2, 3, 4, 5, 6, 7, 8, 9, 10];
     let mut new = b;
+    // By index: over the items of the first n, what the loop keeps would not be a fact of the whole map, and `Directions` is.
     for i in 0..usize::from(n) {
         map[i] = new + 1;
         new = further(n, a, new);

@@ -56,6 +56,7 @@ fn show_reply(rt: &impl Print, r: Reply) -> io::Result<()> {
     }
 }
 
+// The words as in `edges`: of what is printed a library's contract could not tell anything.
 fn show_given(rt: &impl Print, g: Given) -> io::Result<()> {
     print!(rt; "; {}", g.number)?;
     let (words, _) = g.reply.as_chunks();
