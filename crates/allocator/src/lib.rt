@@ -4,8 +4,8 @@
 ghost use Rattle.std.specs.Prelude.{◌≡◌};
 ghost use Rattle.state.specs.Acts.{called};
 
-use hypercube::Node;
-use state::{Call, State, Step, refused};
+use hypercube::{Node, Refusal};
+use state::{Call, State, Step};
 
 // A call on any state, by way of its record: 1 for one that isn't as "Node and record" says, before the others.
 pub fn call_on(s: State, c: Call) -> Step
@@ -16,7 +16,7 @@ pub fn call_on(s: State, c: Call) -> Step
     if !record::is_valid(&bytes) {
         return Step {
             state: s,
-            reply: refused(1),
+            reply: Refusal::NotARecord.reply(0),
         };
     }
     let reply = calls::call_record(&mut bytes, c);
@@ -24,7 +24,7 @@ pub fn call_on(s: State, c: Call) -> Step
     Step { state, reply }
 }
 
-// The calls on values, on any state.
+// The calls on values, on any state: a function each, which document 01's "Calls on values" and docs/THEOREMS.md name.
 pub fn good(s: State, x: Node) -> Step
     ensures { result ≡ called s (Call.Good x) }
 {
