@@ -56,6 +56,7 @@ fn differs(map: &[u8; 10], i: usize) -> bool
 }
 
 // Whether entry i is right: "map entries above n are i itself, the first n permute 1 to n".
+#[tactic(auto, unfolding(crate::specs::Valid::entry_right))]
 fn entry_right(map: &[u8; 10], n: u8, i: usize) -> bool
     requires { i < 10 }
     ensures { result ≡ entry_right map.now n i }
