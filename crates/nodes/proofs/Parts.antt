@@ -1,4 +1,4 @@
--- A part of a state that may be put anew, and its place in a record: the parts with a word for each node. Assumes nothing.
+-- The parts of a state with a word for each node, put anew, and their places in a record. Assumes nothing.
 use Prim.Native.Nat.{ℕ, ◌+◌, ◌*◌, ◌<◌, ◌≤◌}
 use mathlib.Core.Path.{◌≡◌, refl, sym, ap, ◌∙◌}
 use mathlib.Core.Logic.{inl, inr}
@@ -14,15 +14,6 @@ use Rattle.state.proofs.Valid.{Sized}
 use Rattle.record.specs.Layout.{holders_at, record_size, encode, decode, Encoded}
 use Rattle.record.proofs.Round.{decode_holder, decode_star, decode-encode}
 use Rattle.nodes.specs.Words.{Words, words_of, with_words}
-
--- a list of a state's, that may be put anew
-pub record Part : Type 0 where
-  pub get : State → List ℕ
-  pub put : State → List ℕ → State
-  pub got : (s : State) (l : List ℕ) → get (put s l) ≡ l
-  pub kept : (s : State) → put s (get s) ≡ s
-  pub again : (s : State) (l m : List ℕ) → put (put s l) m ≡ put s m
-  pub sized : (s : State) (l : List ℕ) → Sized s → length l ≡ length (get s) → Sized (put s l)
 
 -- the laws of a part with a word for each node, the holders where b, else the star bits
 module _ (s : State) (l : List ℕ) where
@@ -55,16 +46,6 @@ kept_words s false = refl
 pub words_long : (s : State) (b : Bool) → Sized s → length (cond b s.holders s.stars) ≡ 1024
 words_long s true z = z.holders
 words_long s false z = z.stars
-
-abbrev pub the_words : ℕ → Part
-the_words at = record {
-  get = words_of at;
-  put = with_words at;
-  got = λ s l. got_words s l (eqb at holders_at);
-  kept = λ s. kept_words s (eqb at holders_at);
-  again = λ s l m. words_again s l (eqb at holders_at) m;
-  sized = λ s l z e. sized-words s l (eqb at holders_at) z (e ∙ words_long s (eqb at holders_at) z);
-}
 
 pub words_entries : (at : ℕ) (s : State) → Sized s → length (words_of at s) ≡ 1024
 words_entries at s z = words_long s (eqb at holders_at) z

@@ -65,7 +65,7 @@ pub fn relabelling(bytes: &[u8]) -> Relabelled
     ensures { result ≡ relabelling (decode bytes.now).n (decode bytes.now).conditions }
 {
     let n = record::dimension(bytes);
-    labels::relabel(n as u16, &bytes[record::CONDITIONS..record::STARS])
+    labels::relabel(u16::from(n), &bytes[record::CONDITIONS..record::STARS])
 }
 
 // Whether any of the nodes below `size` is held: a byte of their holders isn't 0.

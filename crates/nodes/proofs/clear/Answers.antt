@@ -1,5 +1,5 @@
 -- The star bits first, while the holders say whose they are, then the holders.
-use Rattle.std.proofs.Common.{refl, ap, ◌∙◌, inl, inr, arith}
+use Rattle.std.proofs.Common.{refl, ap, ◌∙◌, inl, inr, rules}
 use Rattle.hypercube.proofs.Lists.{length_of}
 use Rattle.state.specs.declared.State.{State}
 use Rattle.state.specs.States.{with_holders, cleared}
@@ -10,7 +10,7 @@ use Rattle.nodes.proofs.clear.Goals as goal
 
 pub clear_words-requires : goal.clear_words-requires
 clear_words-requires c = record {
-  encoded = (encode-decode _ c.requires.bytes_len.0 (λ i. omega (arith, c.slice_known-1.given i)) c.requires.bytes_len.1, inr refl);
+  encoded = (encode-decode _ c.requires.bytes_len.0 (λ i. search rules) c.requires.bytes_len.1, inr refl);
   empty_from = c.requires.empty_from.1;
 }
 

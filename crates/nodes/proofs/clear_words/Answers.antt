@@ -1,11 +1,9 @@
-use Rattle.std.proofs.Common.{ℕ, ◌≡◌, List, Bool, true, false, cond, refl, sym, arith, ◌∙◌, map, eqb, get_or}
+use Rattle.std.proofs.Common.{ℕ, ◌≡◌, List, Bool, true, false, cond, refl, arith, ◌∙◌, eqb, get_or}
 use mathlib.Core.Path.{ap₂}
-use Rattle.hypercube.specs.Lists.{from}
-use Rattle.hypercube.proofs.Lists.{length_of, get_or_each}
 use Rattle.record.specs.Layout.{decode}
 use Rattle.record.proofs.Round.{sized-decode, encoded_long}
 use Rattle.nodes.specs.Words.{words_of}
-use Rattle.nodes.proofs.Parts.{words_entries, words_end}
+use Rattle.nodes.proofs.Parts.{words_end}
 use Rattle.nodes.proofs.Sweeps.{sweeping_encoded, sweeping_put, sweeping_all, word_next, holder_next}
 use Rattle.nodes.proofs.clear_words.Invariants.{cleared_at}
 use Rattle.nodes.proofs.clear_words.Goals as goal
@@ -29,23 +27,15 @@ set_word-requires c = (sweeping_encoded (sized-decode _) c.loop-x.invariant, (om
 pub loop-x-preserved : goal.loop-x-preserved
 loop-x-preserved c =
     let j = c.args.job in
-    let place = c.args.at in
     let z = sized-decode c.args.bytes.now in
     let W = c.loop-x.invariant in
-    let e = words_entries place (decode c.args.bytes.now) z in
     let w = c.without-w.ensures
-    ∙ ap₂ (λ (h v : ℕ). cond (eqb h j) 0 v) (c.word.ensures ∙ holder_next place z W (omega arith))
-    (c.word-in-loop-x.ensures ∙ word_next place z W (omega arith) c.requires.encoded.1) in
+    ∙ ap₂ (λ (h v : ℕ). cond (eqb h j) 0 v) (c.word.ensures ∙ holder_next c.args.at z W (omega arith))
+    (c.word-in-loop-x.ensures ∙ word_next c.args.at z W (omega arith) c.requires.encoded.1) in
     sweeping_put z W c.set_word.ensures (omega arith) w
 
 pub returns : goal.returns
 returns c =
-    let l = words_of c.args.at (decode c.args.bytes.now) in
-    let hs = (decode c.args.bytes.now).holders in
-    let j = c.args.job in
-    let z = sized-decode c.args.bytes.now in
-    let f : ℕ → ℕ = cleared_at l hs j in
-    let e = words_entries c.args.at (decode c.args.bytes.now) z in
-    sweeping_all z c.loop-x.invariant (map f (from 0 1024)) (length_of f 0 1024 ∙ sym e)
-    (λ k h. get_or_each f 0 1024 k (omega arith))
-    (λ k a b. stays l hs j k (c.requires.empty_from.empty k (omega arith) (omega arith)))
+    let s = decode c.args.bytes.now in
+    sweeping_all (sized-decode c.args.bytes.now) c.loop-x.invariant
+    (λ k a b. stays (words_of c.args.at s) s.holders c.args.job k (c.requires.empty_from.empty k (omega arith) b))

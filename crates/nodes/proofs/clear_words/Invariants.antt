@@ -2,7 +2,6 @@
 use Rattle.std.proofs.Common.{ℕ, List, cond, eqb, get_or}
 use Rattle.record.specs.Layout.{decode}
 use Rattle.nodes.specs.Words.{words_of}
-use Rattle.nodes.proofs.Parts.{the_words}
 use Rattle.nodes.proofs.Sweeps.{Sweeping}
 use Rattle.nodes.proofs.clear_words.Given as goal
 
@@ -12,4 +11,4 @@ cleared_at l hs j k = cond (eqb (get_or hs k 0) j) 0 (get_or l k 0)
 
 abbrev pub invariant-loop-x : goal.invariant-loop-x
 invariant-loop-x l =
-    let s = decode l.initial.bytes in Sweeping (the_words l.at) s (cleared_at (words_of l.at s) s.holders l.job) l.x l.bytes
+    let s = decode l.initial.bytes in Sweeping l.at s (cleared_at (words_of l.at s) s.holders l.job) l.x l.bytes

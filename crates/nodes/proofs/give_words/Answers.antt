@@ -1,15 +1,13 @@
-use Rattle.std.proofs.Common.{ℕ, ◌≡◌, ◌≢◌, ◌<◌, ◌+◌, List, Bool, cond, sym, ap, arith, ◌∙◌, map, eqb, get_or}
+use Rattle.std.proofs.Common.{ℕ, ◌≡◌, ◌≢◌, ◌<◌, ◌+◌, List, Bool, cond, sym, ap, arith, ◌∙◌, eqb, get_or}
 use borrow.Author.Tests.{ne_eqb}
 use lib.Bits.{bit_and, and_le_r}
 use Rattle.hypercube.specs.Bits.{width}
-use Rattle.hypercube.specs.Lists.{from}
-use Rattle.hypercube.proofs.Lists.{length_of, get_or_each}
 use Rattle.record.specs.Layout.{decode}
 use Rattle.record.proofs.Round.{sized-decode, encoded_long}
 use Rattle.nodes.specs.Words.{words_of}
 use Rattle.nodes.specs.Lowest.{LowestOf}
 use Rattle.nodes.proofs.Among.{among_sum, top_below}
-use Rattle.nodes.proofs.Parts.{words_entries, words_end}
+use Rattle.nodes.proofs.Parts.{words_end}
 use Rattle.nodes.proofs.Sweeps.{sweeping_none, sweeping_encoded, sweeping_put, sweeping_all, word_next}
 use Rattle.nodes.proofs.give_words.Invariants.{given_at}
 use Rattle.nodes.proofs.give_words.Goals as goal
@@ -52,7 +50,6 @@ loop-y-preserved c =
     let z = sized-decode c.args.bytes.now in
     let W = c.loop-y.invariant in
     let t = top _ _ c.requires.lowest_of in
-    let e = words_entries c.args.at (decode c.args.bytes.now) z in
     let w = c.after_grant-w.ensures
     ∙ ap (λ (h : ℕ). cond (eqb (b + bit_and y s) y) v h)
     (c.word.ensures ∙ word_next c.args.at z W (omega arith) c.requires.encoded.1)
@@ -61,14 +58,8 @@ loop-y-preserved c =
 
 pub returns : goal.returns
 returns c =
-    let l = words_of c.args.at (decode c.args.bytes.now) in
     let s = c.args.stars in
-    let b = c.args.low.0 in
-    let v = c.args.v in
-    let z = sized-decode c.args.bytes.now in
-    let f : ℕ → ℕ = given_at l s b v in
-    let e = words_entries c.args.at (decode c.args.bytes.now) z in
     let t = top _ _ c.requires.lowest_of in
-    sweeping_all z c.loop-y.invariant (map f (from 0 1024)) (length_of f 0 1024 ∙ sym e)
-    (λ k h. get_or_each f 0 1024 k (omega arith))
-    (λ k a h. keeps l s b v c.requires.lowest_of k (omega arith) (λ q. omega (arith, and_le_r k s)))
+    sweeping_all (sized-decode c.args.bytes.now) c.loop-y.invariant
+    (λ k a h. keeps (words_of c.args.at (decode c.args.bytes.now)) s c.args.low.0 c.args.v c.requires.lowest_of k h
+    (λ q. omega (arith, and_le_r k s)))

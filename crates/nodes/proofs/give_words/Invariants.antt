@@ -5,7 +5,6 @@ use Rattle.hypercube.specs.Lists.{among}
 use Rattle.hypercube.specs.Subcubes.{vertices}
 use Rattle.record.specs.Layout.{decode}
 use Rattle.nodes.specs.Words.{words_of}
-use Rattle.nodes.proofs.Parts.{the_words}
 use Rattle.nodes.proofs.Sweeps.{Sweeping}
 use Rattle.nodes.proofs.give_words.Given as goal
 
@@ -16,4 +15,4 @@ given_at l s b v k = cond (among k (vertices width s b)) v (get_or l k 0)
 abbrev pub invariant-loop-y : goal.invariant-loop-y
 invariant-loop-y l =
     let s = decode l.initial.bytes in
-    Sweeping (the_words l.at) s (given_at (words_of l.at s) l.stars l.first l.v) l.y l.bytes
+    Sweeping l.at s (given_at (words_of l.at s) l.stars l.first l.v) l.y l.bytes
