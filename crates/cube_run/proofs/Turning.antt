@@ -1,14 +1,13 @@
 -- A turn of the program is a turn of a run, by what was due. Assumes nothing.
-use Rattle.std.proofs.Common.{◌≡◌, ℕ, ◌+◌, ◌-◌, ◌<◌, ◌≤◌, Bool, true, false, not, ◌&&◌, List, [], ◌++◌, length, nat_eq, None, Some, refl, sym, ap, subst, ◌∙◌, arith, append_assoc, append-nil, inl, inr}
+use Rattle.std.proofs.Common.{◌≡◌, ℕ, ◌+◌, ◌≤◌, true, false, List, [], ◌++◌, length, nat_eq, None, Some, refl, sym, ap, subst, ◌∙◌, arith, append_assoc, append-nil, inl, inr}
+use Rattle.std.specs.Prelude.{Result, Ok, Err, IfOk}
 use Rattle.std.specs.declared.option.Option.{Option}
-use mathlib.Core.Bool.{true≢false, false≢true}
 use Rattle.std.specs.Io.KnownBytes.{Consumes, Appends}
 use Rattle.log_stream.specs.declared.Stream.{Stream}
 use Rattle.log_stream.specs.Streams.{start, wrote, unwritten, Ready, Advanced}
 use Rattle.log_stream.specs.Runs.{piece, begins, reads, writes, Reached, turns}
 use Rattle.log_stream.proofs.Theorem.{holds, run_right}
-use Rattle.cube_run.specs.declared.Progress.{Progress}
-use Rattle.cube_run.specs.Turns.{Fed, after_write, Handed, OneMore, Finished}
+use Rattle.cube_run.specs.Turns.{Fed, OneMore, Finished}
 
 -- ---- known bytes: none are read or written, and one piece after the other
 
@@ -32,14 +31,6 @@ appends_more (Some ks) None m xs ys c d = absurd c
 appends_more (Some ks) (Some ls) None xs ys c d = absurd d
 appends_more (Some ks) (Some ls) (Some ms) xs ys c d = d ∙ ap (λ zs. zs ++ ys) c ∙ append_assoc ks xs ys
 
--- a write that didn't fail was made
-written : (u : Stream) (p : Progress) (w : Bool) → p ≡ after_write w u → p.failed ≡ false → w ≡ true
-written u p true e f = refl
-written u p false e f = sym (sym (ap (λ (x : Progress). x.failed) e) ∙ f)
-
-made : (u : Stream) (p : Progress) (w : Bool) → p ≡ after_write w u → w ≡ true → p.stream ≡ wrote u
-made u p w e h = ap (λ (x : Progress). x.stream) (e ∙ ap (λ (b : Bool). after_write b u) h)
-
 module _ {s u : Stream} {r w out r' w' out' : List ℕ} (A : Advanced s r w out u r' w' out') where
   pub reached_read : {t : Stream} {w'' : List ℕ} {left left' : Option (List ℕ)} (held : Option (List ℕ)) → u.place.waits ≡ true
       → Fed left left' u w' t w'' → s.place.ended ≡ false → (b window output : List ℕ) (R : Reached b window output s r w out)
@@ -62,12 +53,11 @@ module _ {s u : Stream} {r w out r' w' out' : List ℕ} (A : Advanced s r w out 
         appended = appends_none held;
       })
 
-  pub reached_write : {p : Progress} (left : Option (List ℕ)) {held held' : Option (List ℕ)} → u.place.waits ≡ false
-      → Handed held held' (unwritten u out') u p → p.failed ≡ false → s.place.ended ≡ false → (b window output : List ℕ)
-      (R : Reached b window output s r w out) → OneMore R left left held held' p.stream r' w' out'
-  reached_write {p} left {held} {held'} k W f on b window output R =
-      let h = written u p W.written W.progress f in
-      subst (λ (x : Stream). OneMore R left left held held' x r' w' out') (sym (made u p W.written W.progress h))
+  pub reached_write : {t : Stream} (left : Option (List ℕ)) {held held' : Option (List ℕ)} → u.place.waits ≡ false
+      → (t ≡ wrote u) × Appends held held' (unwritten u out') → s.place.ended ≡ false → (b window output : List ℕ)
+      (R : Reached b window output s r w out) → OneMore R left left held held' t r' w' out'
+  reached_write left {held} {held'} k W on b window output R =
+      subst (λ (x : Stream). OneMore R left left held held' x r' w' out') (sym W.0)
       (record {
         reached = record { input = R.input; over = R.over; written = R.written ++ unwritten u out'; run = writes R.run on A k };
         more = refl;
@@ -76,36 +66,40 @@ module _ {s u : Stream} {r w out r' w' out' : List ℕ} (A : Advanced s r w out 
         consumed = consumes_none left;
         put = unwritten u out';
         written = refl;
-        appended = W.appended h;
+        appended = W.1;
       })
 
--- ---- the loop: the turns taken, and those that are left of the count
+-- what holds of a made write's stream
+pub if_made : {T E : Type 0} {P Q : T → Type 0} (t : Result T E) → ((u : T) → P u → Q u) → IfOk t P → IfOk t Q
+if_made (Ok u) f h = f u h
+if_made (Err e) f h = h
 
-pub record Going (b window output : List ℕ) (left left' held held' : Option (List ℕ)) (s : Stream) (r w out : List ℕ) (rest : ℕ) : Type 0 where
+-- ---- the loop: n turns were taken
+
+pub record Going (b window output : List ℕ) (left left' held held' : Option (List ℕ)) (s : Stream) (r w out : List ℕ) (n : ℕ) : Type 0 where
   pub reached : Reached b window output s r w out
-  pub count : turns reached.run + rest ≡ 18446744073709551615
+  pub count : turns reached.run ≡ n
   pub consumed : Consumes left left' reached.input
   pub appended : Appends held held' reached.written
 
-pub going_start : (b w out : List ℕ) (left held : Option (List ℕ)) (s : Stream) → s ≡ start
-    → Going b w out left left held held s b w out 18446744073709551615
+pub going_start : (b w out : List ℕ) (left held : Option (List ℕ)) (s : Stream) → s ≡ start → Going b w out left left held held s b w out 0
 going_start b w out left held s e =
-    subst (λ (x : Stream). Going b w out left left held held x b w out 18446744073709551615) (sym e)
+    subst (λ (x : Stream). Going b w out left left held held x b w out 0) (sym e)
     (record {
       reached = record { input = []; over = false; written = []; run = begins };
-      count = omega arith;
+      count = refl;
       consumed = consumes_none left;
       appended = appends_none held;
     })
 
-module _ {b window output : List ℕ} {left left' held held' : Option (List ℕ)} {s : Stream} {r w out : List ℕ} {rest : ℕ}
-    (G : Going b window output left left' held held' s r w out rest) where
+module _ {b window output : List ℕ} {left left' held held' : Option (List ℕ)} {s : Stream} {r w out : List ℕ} {n : ℕ}
+    (G : Going b window output left left' held held' s r w out n) where
   pub going_ready : 152 ≤ length output → Ready s (length w) (length out)
   going_ready h = (holds (omega arith) G.reached.run).ready
 
-  pub going_more : {left'' held'' : Option (List ℕ)} {t : Stream} {r' w' out' : List ℕ} → 0 < rest
-      → OneMore G.reached left' left'' held' held'' t r' w' out' → Going b window output left left'' held held'' t r' w' out' (rest - 1)
-  going_more {left''} {held''} h M = record {
+  pub going_more : {left'' held'' : Option (List ℕ)} {t : Stream} {r' w' out' : List ℕ}
+      → OneMore G.reached left' left'' held' held'' t r' w' out' → Going b window output left left'' held held'' t r' w' out' (n + 1)
+  going_more {left''} {held''} M = record {
     reached = M.reached;
     count = omega (arith, M.more, G.count);
     consumed = subst (Consumes left left'') (sym M.input) (consumes_more left left' left'' _ _ G.consumed M.consumed);
@@ -115,27 +109,11 @@ module _ {b window output : List ℕ} {left left' held held' : Option (List ℕ)
   pub finished_ended : s.place.ended ≡ true → Finished b window output left left' held held' s r w out
   finished_ended e = record { reached = G.reached; ended = inl e; consumed = G.consumed; appended = G.appended }
 
-  pub finished_count : 65535 ≤ length window → 152 ≤ length output → rest ≤ 0 → Finished b window output left left' held held' s r w out
+  pub finished_count : 65535 ≤ length window → 152 ≤ length output → 18446744073709551615 ≤ n
+      → Finished b window output left left' held held' s r w out
   finished_count large wide h = record {
     reached = G.reached;
     ended = inr (omega (arith, G.count, (run_right large wide G.reached.run).moves));
     consumed = G.consumed;
     appended = G.appended;
   }
-
--- what the test of the loop says
-pub goes : (t : Progress) → (not t.failed && not t.stream.place.ended) ≡ true → (t.failed ≡ false) × (t.stream.place.ended ≡ false)
-goes t = go t.failed t.stream.place.ended
-  where
-    go : (f e : Bool) → (not f && not e) ≡ true → (f ≡ false) × (e ≡ false)
-    go true e h = absurd (false≢true h)
-    go false true h = absurd (false≢true h)
-    go false false h = (refl, refl)
-
-pub stops : (t : Progress) → (not t.failed && not t.stream.place.ended) ≡ false → t.failed ≡ false → t.stream.place.ended ≡ true
-stops t = go t.failed t.stream.place.ended
-  where
-    go : (f e : Bool) → (not f && not e) ≡ false → f ≡ false → e ≡ true
-    go true e h k = absurd (true≢false k)
-    go false true h k = refl
-    go false false h k = absurd (true≢false h)

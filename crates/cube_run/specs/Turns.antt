@@ -1,12 +1,11 @@
 -- A turn of the log program is a turn of a run: what it reads and writes is what the run is told. Where it is known which bytes a reader has left
 -- and which a writer holds, as it is of readers and writers in memory, these are the bytes that the run is told.
-use Rattle.std.specs.Prelude.{ℕ, ◌+◌, ◌≤◌, ◌^◌, ◌≡◌, ◌⊎◌, Bool, true, false, List, ◌++◌, length, min, Result, Ok, Err}
+use Rattle.std.specs.Prelude.{ℕ, ◌+◌, ◌≤◌, ◌^◌, ◌≡◌, ◌⊎◌, true, false, List, ◌++◌, length, min, Result, Ok, Err, IfOk}
 use Rattle.std.specs.declared.option.Option.{Option}
 use Rattle.std.specs.Io.KnownBytes.{Consumes, Appends}
 use Rattle.log_stream.specs.declared.Stream.{Stream}
 use Rattle.log_stream.specs.Streams.{took, wrote}
 use Rattle.log_stream.specs.Runs.{Given, piece, Reached, turns}
-use Rattle.cube_run.specs.declared.Progress.{Progress}
 
 -- how many bytes a read put into a part of this length: none where it failed
 abbrev pub read_count : {E : Type 0} → Result ℕ E → ℕ → ℕ
@@ -20,16 +19,9 @@ pub record Fed (left left' : Option (List ℕ)) (s : Stream) (w : List ℕ) (t :
   pub stream : t ≡ took s count
   pub consumed : Consumes left left' (piece s count w')
 
--- after a write, by whether it was made
-abbrev pub after_write : Bool → Stream → Progress
-after_write true s = record { stream = wrote s; failed = false }
-after_write false s = record { stream = s; failed = true }
-
 -- a write of what the stream tells, made or failed; one that was made is behind what the writer held
-pub record Handed (held held' : Option (List ℕ)) (bytes : List ℕ) (s : Stream) (t : Progress) : Type 0 where
-  pub written : Bool
-  pub progress : t ≡ after_write written s
-  pub appended : written ≡ true → Appends held held' bytes
+abbrev pub Handed : {E : Type 0} → (held held' : Option (List ℕ)) → List ℕ → Stream → Result Stream E → Type 0
+Handed held held' bytes s t = IfOk t (λ u. (u ≡ wrote s) × Appends held held' bytes)
 
 -- what a run reaches by one turn more than that of R, which read and wrote these bytes
 pub record OneMore {b window output : List ℕ} {s : Stream} {r w out : List ℕ} (R : Reached b window output s r w out)
@@ -44,10 +36,11 @@ pub record OneMore {b window output : List ℕ} {s : Stream} {r w out : List ℕ
   pub appended : Appends held held' put
 
 -- from a stream that a run reaches, and that has not ended, to one that it reaches next, unless a write failed
-abbrev pub Turned : (left left' held held' : Option (List ℕ)) → Stream → List ℕ → List ℕ → List ℕ → Progress → List ℕ → List ℕ → List ℕ → Type 0
+abbrev pub Turned : {E : Type 0} → (left left' held held' : Option (List ℕ)) → Stream → List ℕ → List ℕ → List ℕ → Result Stream E
+    → List ℕ → List ℕ → List ℕ → Type 0
 Turned left left' held held' s r w out t r' w' out' =
-    t.failed ≡ false → s.place.ended ≡ false → (b window output : List ℕ) (R : Reached b window output s r w out)
-    → OneMore R left left' held held' t.stream r' w' out'
+    IfOk t (λ u. s.place.ended ≡ false → (b window output : List ℕ) (R : Reached b window output s r w out)
+    → OneMore R left left' held held' u r' w' out')
 
 -- a run that was taken to its end, or to the end of a count of 2^64 - 1 turns, in which almost as many bytes were read and written: it was told the
 -- bytes that the reader had left, in their order, and what it wrote is behind what the writer held
@@ -58,6 +51,6 @@ pub record Finished (b window output : List ℕ) (left left' held held' : Option
   pub appended : Appends held held' reached.written
 
 -- the whole log, unless a write failed
-abbrev pub Printed : (left left' held held' : Option (List ℕ)) → List ℕ → List ℕ → List ℕ → Progress → List ℕ → List ℕ → List ℕ → Type 0
-Printed left left' held held' b window output t r w out =
-    t.failed ≡ false → Finished b window output left left' held held' t.stream r w out
+abbrev pub Printed : {E : Type 0} → (left left' held held' : Option (List ℕ)) → List ℕ → List ℕ → List ℕ → Result Stream E
+    → List ℕ → List ℕ → List ℕ → Type 0
+Printed left left' held held' b window output t r w out = IfOk t (λ u. Finished b window output left left' held held' u r w out)

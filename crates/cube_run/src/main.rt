@@ -2,9 +2,9 @@
 // write is log_stream's; here are the buffers and the calls that read and write.
 #![tactic(auto)]
 
-ghost use Rattle.std.specs.Prelude.{◌≡◌, not, ◌&&◌, ◌+◌, ◌<◌, ◌≤◌, ◌^◌, length, is_ok};
+ghost use Rattle.std.specs.Prelude.{◌≡◌, ◌+◌, ◌<◌, ◌≤◌, ◌^◌, length};
 ghost use Rattle.log_stream.specs.Streams.{took, unwritten, Ready};
-ghost use Rattle.cube_run.specs.Turns.{read_count, Fed, after_write, Handed, Turned, Printed};
+ghost use Rattle.cube_run.specs.Turns.{read_count, Fed, Handed, Turned, Printed};
 
 use log_stream::Stream;
 use std::io;
@@ -16,13 +16,6 @@ const RECORD: usize = record::SIZE;
 const WINDOW: usize = 131072;
 
 const OUTPUT: usize = 65624;
-
-// The stream after a turn, and whether a write failed.
-#[derive(Clone, Copy)]
-struct Progress {
-    stream: Stream,
-    failed: bool,
-}
 
 // What a read into a part of the window answered: how many bytes it put there. A read that fails is told on standard error, and counts as the
 // input's end.
@@ -49,30 +42,13 @@ fn read_more<I: Read>(rt: &impl Eprint, input: &mut I, window: &mut [u8], s: Str
     after_read(rt, got, &window[from..], s)
 }
 
-// Whether a write was made. One that fails is told on standard error, and nothing more is written.
-fn after_write(rt: &impl Eprint, written: io::Result<()>, s: Stream) -> Progress
-    ensures { result ≡ after_write (is_ok written) s }
-{
-    if let Err(e) = written {
-        let _ = eprintln!(rt; "write: {e}");
-        return Progress {
-            stream: s,
-            failed: true,
-        };
-    }
-    Progress {
-        stream: s.wrote(),
-        failed: false,
-    }
-}
-
 // One write of all that is to be written.
-fn write_out<O: Write>(rt: &impl Eprint, output: &mut O, out: &[u8], s: Stream) -> Progress
+fn write_out<O: Write>(output: &mut O, out: &[u8], s: Stream) -> io::Result<Stream>
     requires { s.place.put ≤ length out.now }
     ensures { Handed (O.contents output.old) (O.contents output.new) (unwritten s out.now) s result }
 {
-    let written = output.write_all(log_stream::to_write(out, s));
-    after_write(rt, written, s)
+    output.write_all(log_stream::to_write(out, s))?;
+    Ok(s.wrote())
 }
 
 // One turn, and then the read or the write that is due.
@@ -84,28 +60,16 @@ fn turn<I: Read, O: Write>(
     window: &mut [u8],
     out: &mut [u8],
     s: Stream,
-) -> Progress
+) -> io::Result<Stream>
     requires { Ready s (length window.old) (length out.old) }
     ensures { Turned (I.remaining input.old) (I.remaining input.new) (O.contents output.old) (O.contents output.new)
         s rec.old window.old out.old result rec.new window.new out.new }
 {
     let t = log_stream::advance(rec, window, out, s);
-    let place = t.place;
-    if place.waits {
-        return Progress {
-            stream: read_more(rt, input, window, t),
-            failed: false,
-        };
+    if t.place.waits {
+        return Ok(read_more(rt, input, window, t));
     }
-    write_out(rt, output, out, t)
-}
-
-fn goes_on(t: Progress) -> bool
-    ensures { result ≡ (not t.failed && not t.stream.place.ended) }
-{
-    let s = t.stream;
-    let place = s.place;
-    if t.failed { false } else { !place.ended }
+    write_out(output, out, t)
 }
 
 // Until the log has ended and is written, or a write has failed. Each turn but one reads or writes something, so a log of 2^64 turns would take
@@ -117,36 +81,36 @@ fn print_log<I: Read, O: Write>(
     rec: &mut [u8],
     window: &mut [u8],
     out: &mut [u8],
-) -> Progress
+) -> io::Result<Stream>
     requires { (65535 ≤ length window.old) × (152 ≤ length out.old) }
     ensures { Printed (I.remaining input.old) (I.remaining input.new) (O.contents output.old) (O.contents output.new)
         rec.old window.old out.old result rec.new window.new out.new }
 {
-    let mut t = Progress {
-        stream: Stream::start(),
-        failed: false,
-    };
-    let mut turns = u64::MAX;
-    while turns > 0 && goes_on(t) {
-        let s = t.stream;
-        t = turn(rt, input, output, rec, window, out, s);
-        turns -= 1;
+    let mut s = Stream::start();
+    for _ in 0..u64::MAX {
+        if s.place.ended {
+            break;
+        }
+        s = turn(rt, input, output, rec, window, out, s)?;
     }
-    t
+    Ok(s)
 }
 
+// A write that fails is told on standard error, and nothing more is written.
 fn main(rt: HostRuntime) {
     let mut input = rt.stdin();
     let mut output = rt.stdout();
     let mut rec = [0u8; RECORD];
     let mut window = [0u8; WINDOW];
     let mut out = [0u8; OUTPUT];
-    print_log(
+    if let Err(e) = print_log(
         &rt,
         &mut input,
         &mut output,
         &mut rec,
         &mut window,
         &mut out,
-    );
+    ) {
+        let _ = eprintln!(rt; "write: {e}");
+    }
 }

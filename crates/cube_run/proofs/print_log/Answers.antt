@@ -1,29 +1,23 @@
-use Rattle.std.proofs.Common.{sym, ◌∙◌, arith}
-use Rattle.cube_run.proofs.Turning.{going_start, going_ready, going_more, finished_ended, finished_count, goes, stops}
+use Rattle.std.proofs.Common.{arith}
+use Rattle.cube_run.proofs.Turning.{going_start, going_ready, going_more, finished_ended, finished_count}
 use Rattle.cube_run.proofs.print_log.Goals as goal
 
 -- no turn is taken yet
-pub loop-turns-init : goal.loop-turns-init
-loop-turns-init g c = λ f. going_start _ _ _ _ _ _ c.start.ensures
+pub loop-init : goal.loop-init
+loop-init g c = going_start _ _ _ _ _ _ c.start-s.ensures
 
--- no write has failed and the log goes on, so the next turn may be taken
-pub turn-t-requires : goal.turn-t-requires
-turn-t-requires g c =
-    let on = goes c.loop-turns.t (sym c.goes_on.ensures ∙ c.if-goes_on.true) in
-    going_ready (c.loop-turns.invariant on.0) c.requires.1
+-- the log goes on, so the next turn may be taken
+pub turn-requires : goal.turn-requires
+turn-requires g c = going_ready c.loop.invariant c.requires.1
 
 -- it was one more turn of the run
-pub loop-turns-preserved : goal.loop-turns-preserved
-loop-turns-preserved g c = λ f.
-    let on = goes c.loop-turns.t (sym c.goes_on.ensures ∙ c.if-goes_on.true) in
-    let G = c.loop-turns.invariant on.0 in
-    going_more G (omega arith) (c.turn-t.ensures f on.1 _ _ _ G.reached)
+pub loop-preserved : goal.loop-preserved
+loop-preserved g c = going_more c.loop.invariant (c.in_ok-s.ensures c.if-s.false _ _ _ c.loop.invariant.reached)
 
 -- the count is at its end
-pub returns-after-loop-turns : goal.returns-after-loop-turns
-returns-after-loop-turns g c = λ f. finished_count (c.loop-turns.invariant f) c.requires.0 c.requires.1 (omega arith)
+pub returns-after-loop : goal.returns-after-loop
+returns-after-loop g c = finished_count c.loop.invariant c.requires.0 c.requires.1 (omega arith)
 
--- no write has failed, so the log has ended
-pub returns-else-goes_on : goal.returns-else-goes_on
-returns-else-goes_on g c = λ f.
-    finished_ended (c.loop-turns.invariant f) (stops c.loop-turns.t (sym c.goes_on.ensures ∙ c.if-goes_on.false) f)
+-- the log has ended
+pub returns-then-s : goal.returns-then-s
+returns-then-s g c = finished_ended c.loop.invariant c.if-s.true
