@@ -8,8 +8,6 @@ use native.Mathlib.Omega.{arith}
 use lib.Bits.{bit_or, or_add_and, and_le_l, and_le_r}
 use lib.Dec.{eqb}
 use lib.ListN.{length, get_or}
-use Rattle.std.specs.Ordering.{nat_cmp, ord_max}
-use Rattle.std.proofs.lemmas.Bool.Decides.{nat_tests}
 use Rattle.hypercube.proofs.Bits.{lt_or}
 use Rattle.hypercube.specs.Tests.{means_eq, same_test}
 use Rattle.record.specs.Highest.{highest_of, all_zero}
@@ -22,10 +20,6 @@ or_zero a b =
     let left = and_le_l a b in
     let right = and_le_r a b in
     (λ h. (omega arith, omega arith), λ h. omega arith)
-
--- `a.max(b)` of two numbers
-pub ord_max-max : (a b : ℕ) → ord_max nat_cmp a b ≡ max a b
-ord_max-max a b = grind (arith, nat_tests)
 
 module _ (l : List ℕ) where
   -- where the upper half begins; it has as many entries as the lower, or one more

@@ -152,7 +152,7 @@ fn highest(part: &[u8]) -> u8
 {
     let upper = part.len() / 2;
     let turns = part.len() - upper;
-    let mut m = 0;
+    let mut m: u8 = 0;
     for i in 0..turns {
         m = m.max(part[i].max(part[upper + i]));
     }
