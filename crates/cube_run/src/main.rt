@@ -52,6 +52,7 @@ fn write_out<O: Write>(output: &mut O, out: &[u8], s: Stream) -> io::Result<Stre
 }
 
 // One turn, and then the read or the write that is due.
+// The parts come one by one: a struct that lends them would promise of each field that it keeps its reference; arrays in it fix their sizes.
 fn turn<I: Read, O: Write>(
     rt: &impl Eprint,
     input: &mut I,

@@ -14,7 +14,8 @@ use Rattle.std.specs.Prelude.{Result, Err}
 use Rattle.std.proofs.Common.{lit<}
 use Rattle.hypercube.specs.declared.Refusal.{Refusal}
 use Rattle.hypercube.specs.declared.Refusal.TheVariants.{NotARecord, ShortReply, WrongLength, UnknownKind, WrongSize, NoJob, LargeDimension, NoNode}
-use Rattle.hypercube.specs.declared.Refusal.TheVariants.{UnknownStrategy, HoldsNodes, HoldsNone, WrongReport, NodesHeld, NoFreeMember, NotMore, NotFormed}
+use Rattle.hypercube.specs.declared.Refusal.TheVariants.{UnknownStrategy, HoldsNodes, HoldsNone, WrongReport}
+use Rattle.hypercube.specs.declared.Refusal.TheVariants.{NodesHeld, NoFreeMember, NotMore, NotFormed}
 use Rattle.hypercube.specs.Refusals.{refusal_number}
 use Rattle.record.specs.Layout.{record_size}
 use Rattle.frame_log.specs.Frames.{first_number, first_record, number_of, First}

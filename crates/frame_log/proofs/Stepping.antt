@@ -48,7 +48,8 @@ unfolding later_outcome later_record
 later_told r f r' p' m o c e = record { outcome = rw (e, c.returned, c.reply); «record» = c.«record» }
 
 module _ (r f : List ℕ) (c : Cursor) where
-  pub first_refused : (e : Refusal) (o : Outcome) (r' : List ℕ) → o ≡ Refused (refusal_number e) 0 → First r f (Err e) r' → OnFrame 0 r f c (Last o) r'
+  pub first_refused : (e : Refusal) (o : Outcome) (r' : List ℕ) → o ≡ Refused (refusal_number e) 0 → First r f (Err e) r'
+      → OnFrame 0 r f c (Last o) r'
   unfolding on_frame on_record
   first_refused e o r' q h = record { answered = rw (q, ← h.0, ne_eqb (refusal_number e) 0 (some_number e)); «record» = h.1 }
 
