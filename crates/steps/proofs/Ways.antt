@@ -9,7 +9,6 @@ use lib.ListN.{length}
 use Rattle.hypercube.specs.Replies.{number_of}
 use Rattle.hypercube.specs.Checks.{Check, StopsAt, number_at}
 use Rattle.state.specs.declared.State.{State}
-use Rattle.state.specs.declared.Call.{Call}
 use Rattle.hypercube.specs.declared.Reply.{Reply}
 use Rattle.hypercube.specs.declared.Reply.TheVariants.{Refused}
 use Rattle.state.specs.declared.Step.{Step}
@@ -20,7 +19,7 @@ use Rattle.state.proofs.Valid.{means_valid}
 use Rattle.state.proofs.Steps.{stopped}
 use Rattle.record.specs.Layout.{record_size, encode, decode, head_right, valid_record}
 use Rattle.record.proofs.Round.{sized-decode, record_says}
-use Rattle.steps.specs.Carried.{Does, Carried}
+use Rattle.steps.specs.Carried.{Does}
 
 -- ---- a record that is one
 
@@ -58,7 +57,3 @@ accepts r s told z {t} e h = record {
   replied = ap (λ (u : Step). u.reply) e;
   left = rw (← e, eq-eqb (number_of told) 0 z) h;
 }
-
--- a call that is known to be another
-pub by_call : (r : List ℕ) {c d : Call} → c ≡ d → {told : Reply} {r' : List ℕ} → Carried r d told r' → Carried r c told r'
-by_call r e h = rw e h
