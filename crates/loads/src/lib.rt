@@ -17,10 +17,7 @@ fn is_like(bytes: &[u8], y: u16, holder: u16, stars: u16) -> bool
     requires { (length bytes.now ≡ record_size) × (y < 1024) }
     ensures { result ≡ is_like bytes.now holder stars y }
 {
-    if holder_at(bytes, y) != holder {
-        return false;
-    }
-    stars_at(bytes, y) == stars
+    holder_at(bytes, y) == holder && stars_at(bytes, y) == stars
 }
 
 // The next lower star bits after t, and all of them after 0.
@@ -43,13 +40,7 @@ fn is_whole(bytes: &[u8], n: u16, x: u16, holder: u16, stars: u16) -> bool
     requires { (length bytes.now ≡ record_size) × ((n ≤ 10) × (x < 1024)) }
     ensures { result ≡ is_whole bytes.now n holder stars x }
 {
-    if holder == 0 {
-        return true;
-    }
-    if hypercube::pow2(n) <= stars {
-        return false;
-    }
-    is_like(bytes, next(x, stars), holder, stars)
+    holder == 0 || (stars < hypercube::pow2(n) && is_like(bytes, next(x, stars), holder, stars))
 }
 
 // Whether each node up to `end` is so, where those before `at` are.
@@ -73,10 +64,7 @@ fn block_whole(bytes: &[u8], n: u16, at: u16, end: u16) -> bool
 {
     let from = record::HOLDERS + 2 * usize::from(at);
     let to = record::HOLDERS + 2 * usize::from(end);
-    if record::all_zero(&bytes[from..to]) {
-        return true;
-    }
-    whole_to(bytes, n, at, end)
+    record::all_zero(&bytes[from..to]) || whole_to(bytes, n, at, end)
 }
 
 // Whether each held node is part of a whole subcube; `size` is 2^n. The blocks after one that is not so are not read.
@@ -205,8 +193,5 @@ pub fn is_formed(bytes: &[u8]) -> bool
 {
     let n = u16::from(record::dimension(bytes));
     let size = hypercube::pow2(n);
-    if !all_whole(bytes, n, size) {
-        return false;
-    }
-    one_lowest(bytes, size)
+    all_whole(bytes, n, size) && one_lowest(bytes, size)
 }

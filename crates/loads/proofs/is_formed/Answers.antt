@@ -1,4 +1,4 @@
-use Rattle.std.proofs.Common.{◌≡◌, arith, rules, ◌∙◌}
+use Rattle.std.proofs.Common.{◌≡◌, arith, ◌∙◌}
 use Rattle.record.specs.Says.{dimension_of}
 use Rattle.loads.proofs.Formed.{long, small, few_nodes, not_whole, by_alone}
 use Rattle.loads.proofs.is_formed.Goals as goal
@@ -15,14 +15,15 @@ all_whole-requires c =
     let few = few_nodes _ c.requires n c.pow2-size.ensures in
     (long _ c.requires, (omega (arith, small _ c.requires), omega (arith, small _ c.requires)))
 
-pub returns-then-not-all_whole : goal.returns-then-not-all_whole
-returns-then-not-all_whole c =
-    not_whole _ c.requires (c.from-n.ensures ∙ c.dimension.ensures) c.pow2-size.ensures c.all_whole.ensures (search rules)
-
 pub one_lowest-requires : goal.one_lowest-requires
 one_lowest-requires c =
     (long _ c.requires, few_nodes _ c.requires (c.from-n.ensures ∙ c.dimension.ensures) c.pow2-size.ensures)
 
-pub returns : goal.returns
-returns c =
-    by_alone _ c.requires (c.from-n.ensures ∙ c.dimension.ensures) c.pow2-size.ensures c.all_whole.ensures (search rules) c.one_lowest.ensures
+pub returns-then-all_whole : goal.returns-then-all_whole
+returns-then-all_whole c =
+    by_alone _ c.requires (c.from-n.ensures ∙ c.dimension.ensures) c.pow2-size.ensures c.all_whole.ensures c.if-all_whole.true c.one_lowest.ensures
+
+pub returns-else-all_whole : goal.returns-else-all_whole
+returns-else-all_whole c =
+    c.if-all_whole.false
+    ∙ not_whole _ c.requires (c.from-n.ensures ∙ c.dimension.ensures) c.pow2-size.ensures c.all_whole.ensures c.if-all_whole.false
