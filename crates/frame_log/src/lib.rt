@@ -45,6 +45,7 @@ pub enum Step {
     End,
 }
 
+// Two of the kinds' numbers, each compared once: an enum would be no plainer.
 const SETUP: u16 = 0x0301;
 
 const GRANTED: u16 = 0x8001;
@@ -111,6 +112,7 @@ fn refused(r: Refusal) -> Outcome
 }
 
 // The outcome of a call, from the number that it returned and the reply. There is room for it, so the number isn't 2, which has no reply.
+// The number is `cube_call`'s, which the C interface has: 0, or a refusal's.
 fn read_reply(number: u32, reply: &[u8]) -> Outcome
     requires { (length reply.now ≡ 12) × (number ≢ 2) }
     ensures { result ≡ told (heard number reply.now) }

@@ -4,6 +4,7 @@
 ghost use Rattle.std.specs.Prelude.{◌≡◌};
 ghost use Rattle.tally.specs.Counts.{more, none, counted};
 
+// A refusal's number stays a number: it is what a reply's bytes say, and `told` (frame_log/specs/Frames.antt) is over every one.
 // What a line says: 'setup' has n, 'done' a value, 'granted' job, lowest node, star bits and tried, 'refused' number and tried.
 #[derive(Clone, Copy)]
 pub enum Outcome {
