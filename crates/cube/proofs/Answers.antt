@@ -12,17 +12,18 @@ use Rattle.hypercube.specs.Checks.{first_met}
 use Rattle.history.specs.Calls.{kind}
 use Rattle.history.specs.Account.{History}
 use Rattle.history.specs.Causes.{checks, causes}
+use Rattle.std.specs.Prelude.{Result, Ok, Err}
+use Rattle.hypercube.specs.declared.Refusal.{Refusal}
 use Rattle.hypercube.specs.declared.Reply.{Reply}
 use Rattle.hypercube.specs.declared.Reply.TheVariants.{Refused}
 use Rattle.history.specs.Verdicts.{cause, step_by, verdict_by, step, verdict}
 use Rattle.history.specs.Claims.{Bounded}
 use Rattle.state.specs.declared.State.{State}
+use Rattle.state.specs.declared.Call.{Call}
 use Rattle.state.specs.declared.Step.{Step}
 use Rattle.state.proofs.Valid.{Sized, Valid, means_valid}
 use Rattle.record.specs.Layout.{encode, valid_record}
 use Rattle.record.proofs.Round.{decode-encode, valid-encode}
-use Rattle.frames.specs.declared.Parsed.{Parsed}
-use Rattle.frames.specs.declared.Parsed.TheVariants.{Known, Bad}
 use Rattle.frames.specs.Parse.{parsed}
 use Rattle.steps.proofs.Keeps.{Kept, kept_all, kept, stored_kept}
 use Rattle.cube.specs.Called.{step_of, step_on, call_number, call_record, call_reply}
@@ -64,9 +65,9 @@ module _ (s : State) (z : Sized s) (w : Valid s) (e : Exchange) where
   }
 
   -- what any frame keeps
-  kept_frame : (p : Parsed) → Kept s (step_of s p)
-  kept_frame (Known c) = kept s z w.small c
-  kept_frame (Bad m) = kept_all s z _
+  kept_frame : (p : Result Call Refusal) → Kept s (step_of s p)
+  kept_frame (Ok c) = kept s z w.small c
+  kept_frame (Err e) = kept_all s z _
 
   -- with room: the first cause from row 3 on, and what the frame does
   abbrev first : Option ℕ

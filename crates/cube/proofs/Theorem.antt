@@ -1,7 +1,7 @@
 -- Demand 3, for every record that set-up left or that the loading call lets through, and every list of calls. Assumes nothing.
 use mathlib.Core.Path.{◌≡◌, refl, sym, ap, fun_ext, subst}
 use mathlib.Core.Logic.{inl, inr}
-use mathlib.Core.List.{List, []}
+use mathlib.Core.List.{List}
 use Prim.Native.Nat.{ℕ, ◌≤◌}
 use borrow.Author.Tests.{le-leb}
 use lib.ListN.{length, length-replicate}
@@ -16,7 +16,7 @@ use Rattle.state.specs.States.{fresh_state}
 use Rattle.record.specs.Layout.{record_size}
 use Rattle.record.specs.Says.{dimension_of, says}
 use Rattle.cube.specs.Called.{setup_number, setup_record, delivered}
-use Rattle.cube.specs.Start.{Start, set_up, loaded, MayBegin}
+use Rattle.cube.specs.Start.{Start, set_up, MayBegin}
 use Rattle.cube.specs.Run.{Exchange, Exchanges, fed, number, reply, history_at}
 use Rattle.cube.specs.Demand3.{ListRight, Demand3}
 use Rattle.cube.proofs.Answers.{Stands}

@@ -9,15 +9,19 @@ use borrow.Author.Tests.{eq-eqb, ne_eqb, lt-ltb, le-ltb, lt-leb, le-leb}
 use lib.ListN.{length, get_or}
 use Rattle.hypercube.specs.Replies.{number_of, frame_of, written}
 use Rattle.state.specs.declared.State.{State}
+use Rattle.state.specs.declared.Call.{Call}
+use Rattle.state.specs.Acts.{refuse}
+use Rattle.std.specs.Prelude.{Result, Err}
+use Rattle.hypercube.specs.Refusals.{refusal_number}
+use Rattle.hypercube.specs.declared.Refusal.{Refusal}
 use Rattle.hypercube.specs.declared.Reply.{Reply}
 use Rattle.hypercube.specs.declared.Reply.TheVariants.{Refused}
 use Rattle.state.specs.States.{fresh_state}
-use Rattle.record.specs.Layout.{record_size, encode, valid_record}
+use Rattle.record.specs.Layout.{record_size, encode, decode, valid_record}
 use Rattle.record.specs.Says.{formed_record}
 use Rattle.record.proofs.Round.{record_says, encode-decode}
-use Rattle.frames.specs.declared.Parsed.{Parsed}
-use Rattle.frames.specs.declared.Parsed.TheVariants.{Bad}
 use Rattle.frames.specs.Parse.{parsed}
+use Rattle.steps.specs.Carried.{Does}
 use Rattle.steps.proofs.Ways.{refuses}
 use Rattle.cube.specs.Called.{setup_number, setup_record, load_number, step_on, call_number, call_record, call_reply}
 use Rattle.cube.specs.Called.{delivered, SetUp, Loaded, Called}
@@ -61,14 +65,18 @@ module _ (r : List ℕ) where
 -- ---- the frame call
 
 -- a frame that is not read
-pub frame_refused : (r : List ℕ) → valid_record r ≡ true → ((i : ℕ) → get_or r i 0 < 256)
-    → (m : ℕ) {told : Reply} → told ≡ Refused m 0 → CarriedFrame r (Bad m) told r
-frame_refused r v bytes zero a =
+refused_with : (r : List ℕ) → valid_record r ≡ true → ((i : ℕ) → get_or r i 0 < 256)
+    → (m : ℕ) {told : Reply} → told ≡ Refused m 0 → Does r (refuse (decode r) m) told r
+refused_with r v bytes zero a =
     record { replied = a; left = sym (encode-decode r (record_says r v).long bytes (record_says r v).head) }
-frame_refused r v bytes (suc m) a = refuses r (suc m) (λ z. absurd (omega arith)) refl a
+refused_with r v bytes (suc m) a = refuses r (suc m) (λ z. absurd (omega arith)) refl a
+
+pub frame_refused : (r : List ℕ) → valid_record r ≡ true → ((i : ℕ) → get_or r i 0 < 256)
+    → (e : Refusal) {told : Reply} → told ≡ Refused (refusal_number e) 0 → CarriedFrame r (Err e) told r
+frame_refused r v bytes e a = refused_with r v bytes (refusal_number e) a
 
 -- a frame that is known to be another
-pub by_frame : (r : List ℕ) {p q : Parsed} → p ≡ q → {told : Reply} {r' : List ℕ}
+pub by_frame : (r : List ℕ) {p q : Result Call Refusal} → p ≡ q → {told : Reply} {r' : List ℕ}
     → CarriedFrame r q told r' → CarriedFrame r p told r'
 by_frame r e h = rw e h
 
@@ -87,7 +95,7 @@ module _ (r f p : List ℕ) where
     }
 
     -- told and r' are what the step does; p' is what is written
-    pub call-told : 12 ≤ length p → {q : Parsed} → q ≡ parsed f → {told : Reply} {r' : List ℕ} → CarriedFrame r q told r'
+    pub call-told : 12 ≤ length p → {q : Result Call Refusal} → q ≡ parsed f → {told : Reply} {r' : List ℕ} → CarriedFrame r q told r'
         → {m : ℕ} → m ≡ number_of told → {p' : List ℕ} → p' ≡ written (frame_of told) p → Called delivered r f p m r' p'
     unfolding call_number call_record call_reply step_on
     call-told h {q} e {told} {r'} d {m} a {p'} b = record {

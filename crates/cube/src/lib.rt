@@ -3,24 +3,32 @@
 #![tactic(auto)]
 
 ghost use Rattle.std.specs.Prelude.{◌≡◌, true};
+ghost use Rattle.hypercube.specs.Refusals.{refusal_number};
 ghost use Rattle.record.specs.Layout.{valid_record};
 ghost use Rattle.cube.specs.Called.{delivered, SetUp, Loaded, Called};
 ghost use Rattle.cube.specs.Carried.{CarriedFrame};
 
-use frames::Parsed;
-use hypercube::Reply;
+use hypercube::{Refusal, Reply};
+use state::{Call, State};
+
+// The number that a refusal is told by.
+fn told(refusal: Refusal) -> u32
+    ensures { result ≡ refusal_number refusal }
+{
+    u32::from(refusal.number())
+}
 
 // Document 01: "Set-up takes a buffer and n." 1 for a buffer that hasn't a record's size, then 7 for n above 10; a refused set-up writes nothing.
 pub fn cube_setup(rec: &mut [u8], n: u32) -> u32
     ensures { SetUp delivered rec.old n result rec.new }
 {
     if rec.len() != record::SIZE {
-        return 1;
+        return told(Refusal::NotARecord);
     }
     if 10 < n {
-        return 7;
+        return told(Refusal::LargeDimension);
     }
-    record::store(state::State::fresh(n as u8), rec);
+    record::store(State::fresh(n as u8), rec);
     0
 }
 
@@ -31,29 +39,29 @@ pub fn cube_load(rec: &[u8]) -> u32
     ensures { Loaded delivered rec.now result }
 {
     if record::SIZE != rec.len() {
-        return 1;
+        return told(Refusal::NotARecord);
     }
     if !record::head_right(rec) {
-        return 1;
+        return told(Refusal::NotARecord);
     }
     let whole = &rec[0..record::SIZE];
     if !record::is_valid(whole) {
-        return 1;
+        return told(Refusal::NotARecord);
     }
     if !loads::is_formed(whole) {
-        return 18;
+        return told(Refusal::NotFormed);
     }
     0
 }
 
 // A frame on a record that is one: its call, or the refusal of the frame.
-fn carry_frame(rec: &mut [u8], p: Parsed) -> Reply
+fn carry_frame(rec: &mut [u8], read: Result<Call, Refusal>) -> Reply
     requires { valid_record rec.old ≡ true }
-    ensures { CarriedFrame rec.old p result rec.new }
+    ensures { CarriedFrame rec.old read result rec.new }
 {
-    match p {
-        Parsed::Known(c) => calls::call_record(rec, c),
-        Parsed::Bad(number) => state::refused(number),
+    match read {
+        Ok(c) => calls::call_record(rec, c),
+        Err(refusal) => refusal.reply(0),
     }
 }
 
@@ -63,12 +71,12 @@ pub fn cube_call(rec: &mut [u8], frame: &[u8], reply: &mut [u8]) -> u32
     ensures { Called delivered rec.old frame.now reply.old result rec.new reply.new }
 {
     if !record::is_valid(rec) {
-        return 1;
+        return told(Refusal::NotARecord);
     }
     if reply.len() < 12 {
-        return 2;
+        return told(Refusal::ShortReply);
     }
     let r = carry_frame(rec, frames::parse(frame));
     frames::answer(reply, r);
-    state::number(r) as u32
+    u32::from(state::number(r))
 }

@@ -1,79 +1,73 @@
 -- A frame by its size and its kind: which of causes 3 to 5 it meets, or which call it is. Assumes nothing.
 use Prim.Native.Nat.{ℕ, ◌<◌, ◌≤◌}
-use mathlib.Core.Path.{◌≡◌, refl, sym, ap, ◌∙◌}
-use mathlib.Core.Logic.{◌≢◌, ⊎_elim}
-use mathlib.Core.Bool.{Bool, true, false, not, ◌||◌, true≢false, false≢true}
+use mathlib.Core.Path.{◌≡◌, sym, ap, ◌∙◌}
+use mathlib.Core.Logic.{◌≢◌}
 use mathlib.Core.List.{List}
-use mathlib.Core.Option.{Option, none, some}
-use native.Mathlib.Omega.{arith}
-use borrow.Author.Tests.{eq-eqb, ne_eqb, lt-ltb, le-ltb, not-false}
-use lib.Dec.{eqb, leb}
+use mathlib.Core.Option.{some}
+use borrow.Author.Tests.{eq-eqb, ne_eqb, lt-ltb, le-ltb}
 use lib.ListN.{length}
+use Rattle.std.specs.Prelude.{Ok, Err}
 use Rattle.hypercube.specs.Words.{word}
-use Rattle.hypercube.specs.Conditions.{all_of}
-use Rattle.hypercube.specs.Tests.{means_eq, means_le, means_or}
-use Rattle.history.specs.Calls.{Kind, other, kinds, kind_of, size}
-use Rattle.history.proofs.KindTable.{row-size, RowOf, row_of, shown, NoneOf, keep, row_left}
+use Rattle.hypercube.specs.declared.Refusal.{Refusal}
+use Rattle.hypercube.specs.declared.Refusal.TheVariants.{WrongLength, UnknownKind, WrongSize}
+use Rattle.history.specs.Calls as calls
+use Rattle.history.specs.Calls.{good, fault, repaired, relabel, request, release, grow, other, kind_of, size}
 use Rattle.state.specs.Acts.{call_of}
 use Rattle.state.specs.declared.Call.{Call}
-use Rattle.frames.specs.declared.Parsed.TheVariants.{Known, Bad}
+use Rattle.frames.specs.declared.Kind.{Kind}
+use Rattle.frames.specs.declared.Kind.TheVariants.{Good, Fault, Repaired, Relabel, Request, Release, Grow}
+use Rattle.frames.specs.Kinds.{in_table, of_table}
 use Rattle.frames.specs.Parse.{sized, by_kind, parsed}
-use Rattle.frames.specs.Parts.{RightSize}
 
--- ---- the kind of a number, by the table's rows
+-- a number that the table doesn't have is of no kind
+pub no_kind : (w : ℕ) → w ≢ 0x0101 → w ≢ 0x0102 → w ≢ 0x0103 → w ≢ 0x0203 → w ≢ 0x0201 → w ≢ 0x0202 → w ≢ 0x0204
+    → Err UnknownKind ≡ of_table (kind_of w)
+unfolding kind_of
+no_kind w a b c d e f g =
+    simp (ne_eqb _ _ a, ne_eqb _ _ b, ne_eqb _ _ c, ne_eqb _ _ d, ne_eqb _ _ e, ne_eqb _ _ f, ne_eqb _ _ g)
 
-module _ (w : ℕ) where
-  -- a number that is no row's has size 0, and no other number has
-  pub other_size : NoneOf (Unit {0}) kinds w → 0 ≡ size (kind_of w)
-  other_size n = ⊎_elim (λ e. sym (ap size e)) (λ R. absurd (true≢false (row_left w (λ r. true) n R))) (row_of w)
+of_kind : (k : calls.Kind) (x : Kind) → Ok x ≡ of_table k → k ≡ in_table x
+of_kind good x e = cc
+of_kind fault x e = cc
+of_kind repaired x e = cc
+of_kind relabel x e = cc
+of_kind request x e = cc
+of_kind release x e = cc
+of_kind grow x e = cc
+of_kind other x e = cc
 
-  size_other : size (kind_of w) ≡ 0 → kind_of w ≡ other
-  size_other z = ⊎_elim (λ e. e) (λ R. absurd (omega (arith, R.size, row-size R.row R.listed))) (row_of w)
+of_none : (f : List ℕ) (k : calls.Kind) (e : Refusal) → Err e ≡ of_table k → Err e ≡ by_kind f k
+unfolding call_of sized
+of_none f good x e = cc
+of_none f fault x e = cc
+of_none f repaired x e = cc
+of_none f relabel x e = cc
+of_none f request x e = cc
+of_none f release x e = cc
+of_none f grow x e = cc
+of_none f other x e = cc
 
-  row_sized : size (kind_of w) ≢ 0 → RowOf w
-  row_sized s = ⊎_elim (λ e. absurd (s (ap size e))) (λ R. R) (row_of w)
+wrong_size : (f : List ℕ) (x : Kind) → length f ≢ size (in_table x) → Err WrongSize ≡ by_kind f (in_table x)
+unfolding call_of sized
+wrong_size f Good e = simp (ne_eqb _ _ e)
+wrong_size f Fault e = simp (ne_eqb _ _ e)
+wrong_size f Repaired e = simp (ne_eqb _ _ e)
+wrong_size f Relabel e = simp (ne_eqb _ _ e)
+wrong_size f Request e = simp (ne_eqb _ _ e)
+wrong_size f Release e = simp (ne_eqb _ _ e)
+wrong_size f Grow e = simp (ne_eqb _ _ e)
 
-module _ (f : List ℕ) (w : ℕ) (p : RightSize f w) where
-  its : RowOf w
-  its = row_sized w (λ z. omega (arith, p.whole, p.right))
-
-  -- only a relabel has no field
-  pub has_field : w ≢ 0x0203 → 6 ≤ length f
-  unfolding all_of
-  has_field l =
-      ⊎_elim (λ e. absurd (l (its.number ∙ e))) (λ h. omega (arith, p.right, its.size, h))
-      ((means_or (means_eq its.row.number 0x0203) (means_le 6 its.row.size)).holds
-      (shown w (λ r. eqb r.number 0x0203 || leb 6 r.size) refl its))
-
-  -- the number is y if it isn't x and is none of the other rows'
-  pub last_row : (x y : ℕ) → NoneOf (Unit {0}) (keep (λ r. not (eqb r.number x || eqb r.number y)) kinds) w → w ≢ x → w ≡ y
-  last_row x y n l =
-      ⊎_elim (λ e. absurd (l (its.number ∙ e))) (λ e. its.number ∙ e)
-      ((means_or (means_eq its.row.number x) (means_eq its.row.number y)).holds
-      (not-false _ (row_left w (λ r. not (eqb r.number x || eqb r.number y)) n its)))
-
--- ---- any frame
-
-abbrev is_some : Option Call → Bool
-is_some none = false
-is_some (some c) = true
-
-wrong_size : (f : List ℕ) (k : Kind) (o : Option Call) → is_some o ≡ true → length f ≢ size k → Bad 5 ≡ sized f k o
+right_size : (f : List ℕ) (k : calls.Kind) (c : Call) → some c ≡ call_of f k → length f ≡ size k → Ok c ≡ by_kind f k
 unfolding sized
-wrong_size f k none h e = absurd (false≢true h)
-wrong_size f k (some c) h e = simp (ne_eqb _ _ e)
-
-right_size : (f : List ℕ) (k : Kind) (o : Option Call) (c : Call) → some c ≡ o → length f ≡ size k → Known c ≡ sized f k o
-unfolding sized
-right_size f k o c h e = rw (← h, eq-eqb _ _ e)
+right_size f k c h e = rw (← h, eq-eqb _ _ e)
 
 module _ (f : List ℕ) where
-  pub cause_3_short : length f < 4 → Bad 3 ≡ parsed f
+  pub cause_3_short : length f < 4 → Err WrongLength ≡ parsed f
   unfolding parsed
   cause_3_short p = simp (lt-ltb _ _ p)
 
   module _ (p : 4 ≤ length f) where
-    pub cause_3_length : word f 0 ≢ length f → Bad 3 ≡ parsed f
+    pub cause_3_length : word f 0 ≢ length f → Err WrongLength ≡ parsed f
     unfolding parsed
     cause_3_length q = simp (le-ltb _ _ p, ne_eqb _ _ q)
 
@@ -82,15 +76,12 @@ module _ (f : List ℕ) where
       unfolding parsed
       parsed-kind = rw e (simp (le-ltb _ _ p, eq-eqb _ _ q))
 
-      pub cause_4 : size (kind_of w) ≡ 0 → Bad 4 ≡ parsed f
-      unfolding call_of sized
-      cause_4 z = sym (ap (by_kind f) (size_other w z)) ∙ parsed-kind
+      pub cause_4 : (u : Refusal) → Err u ≡ of_table (kind_of w) → Err u ≡ parsed f
+      cause_4 u h = of_none f (kind_of w) u h ∙ parsed-kind
 
-      pub cause_5 : size (kind_of w) ≢ 0 → length f ≢ size (kind_of w) → Bad 5 ≡ parsed f
-      unfolding call_of all_of
-      cause_5 z h =
-          let R = row_sized w z in
-          wrong_size f (kind_of w) (call_of f (kind_of w)) (rw R.kind (shown w (λ r. is_some (call_of f r.kind)) refl R)) h ∙ parsed-kind
+      module _ (x : Kind) (k : Ok x ≡ of_table (kind_of w)) where
+        pub cause_5 : length f ≢ size (in_table x) → Err WrongSize ≡ parsed f
+        cause_5 h = wrong_size f x h ∙ ap (by_kind f) (sym (of_kind (kind_of w) x k)) ∙ parsed-kind
 
-      pub known : (c : Call) → some c ≡ call_of f (kind_of w) → length f ≡ size (kind_of w) → Known c ≡ parsed f
-      known c o h = right_size f (kind_of w) (call_of f (kind_of w)) c o h ∙ parsed-kind
+        pub known : (c : Call) → some c ≡ call_of f (in_table x) → length f ≡ size (in_table x) → Ok c ≡ parsed f
+        known c o h = right_size f (in_table x) c o h ∙ ap (by_kind f) (sym (of_kind (kind_of w) x k)) ∙ parsed-kind

@@ -1,3 +1,3 @@
--- Frames to calls, and what the parts of parsing and answering ask and do.
+-- Frames to calls, by their kinds.
+pub mod Kinds
 pub mod Parse
-pub mod Parts

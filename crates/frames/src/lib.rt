@@ -1,125 +1,103 @@
 // Frames to calls, and replies to frames. Document 01, "Six calls and their frames".
 #![tactic(auto)]
 
-ghost use Rattle.std.specs.Prelude.{◌≡◌, ◌+◌, ◌*◌, ◌≤◌, ◌<◌, length};
+ghost use Rattle.std.specs.Prelude.{◌≡◌, ◌≤◌, length};
 ghost use Rattle.std.proofs.Math.Option.{some};
-ghost use Rattle.history.specs.Calls.{kind_of, size};
-ghost use Rattle.hypercube.specs.Words.{words};
+ghost use Rattle.history.specs.Calls.{size};
 ghost use Rattle.hypercube.specs.Replies.{frame_of, written};
 ghost use Rattle.state.specs.Acts.{call_of};
+ghost use Rattle.frames.specs.Kinds.{in_table, Decodes};
 ghost use Rattle.frames.specs.Parse.{parsed};
-ghost use Rattle.frames.specs.Parts.{RightSize, put_word};
 
-use hypercube::{Node, Reply};
-use record::word;
+use hypercube::{Node, Refusal, Reply};
+use record::{put_words, word};
 use state::Call;
 
-// A frame that is read, or the number of its refusal.
-#[derive(Clone, Copy)]
-pub enum Parsed {
-    Known(Call),
-    Bad(u16),
+// The kinds of frames.
+#[derive(Clone, Copy, PartialEq, Eq)]
+pub enum Kind {
+    Good,
+    Fault,
+    Repaired,
+    Relabel,
+    Request,
+    Release,
+    Grow,
 }
 
-// The kinds' numbers.
-const GOOD: u16 = 0x0101;
+impl TryFrom<u16> for Kind {
+    type Error = Refusal;
 
-const FAULT: u16 = 0x0102;
+    ghost try_from_gives = { Decodes };
 
-const REPAIRED: u16 = 0x0103;
+    fn try_from(number: u16) -> Result<Self, Refusal> {
+        match number {
+            0x0101 => Ok(Kind::Good),
+            0x0102 => Ok(Kind::Fault),
+            0x0103 => Ok(Kind::Repaired),
+            0x0203 => Ok(Kind::Relabel),
+            0x0201 => Ok(Kind::Request),
+            0x0202 => Ok(Kind::Release),
+            0x0204 => Ok(Kind::Grow),
+            _ => Err(Refusal::UnknownKind),
+        }
+    }
+}
 
-const RELABEL: u16 = 0x0203;
-
-const REQUEST: u16 = 0x0201;
-
-const RELEASE: u16 = 0x0202;
-
-const GROW: u16 = 0x0204;
-
-// The length of a kind, and 0 for a number that is none of these.
-fn size_of(kind: u16) -> usize
-    ensures { result ≡ size (kind_of kind) }
-{
-    match kind {
-        GOOD => 6,
-        FAULT => 6,
-        REPAIRED => 6,
-        RELABEL => 4,
-        REQUEST => 8,
-        RELEASE => 6,
-        GROW => 8,
-        _ => 0,
+impl Kind {
+    // The length of its frames.
+    pub fn size(self) -> usize
+        ensures { result ≡ size (in_table self) }
+    {
+        match self {
+            Kind::Relabel => 4,
+            Kind::Good | Kind::Fault | Kind::Repaired | Kind::Release => 6,
+            Kind::Request | Kind::Grow => 8,
+        }
     }
 }
 
 // The call of a frame whose size is its kind's.
-fn call_of(frame: &[u8], kind: u16) -> Call
-    requires { RightSize frame.now kind }
-    ensures { some result ≡ call_of frame.now (kind_of kind) }
+#[tactic(auto, unfolding(state::specs::Acts::call_of))]
+fn call_of(frame: &[u8], kind: Kind) -> Call
+    requires { length frame.now ≡ size (in_table kind) }
+    ensures { some result ≡ call_of frame.now (in_table kind) }
 {
-    if kind == RELABEL {
-        return Call::Relabel;
-    }
-    let field = word(frame, 4);
     match kind {
-        GOOD => Call::Good(Node(field)),
-        FAULT => Call::Fault(Node(field)),
-        REPAIRED => Call::Repaired(Node(field)),
-        REQUEST => Call::Request {
-            job: field,
+        Kind::Good => Call::Good(Node(word(frame, 4))),
+        Kind::Fault => Call::Fault(Node(word(frame, 4))),
+        Kind::Repaired => Call::Repaired(Node(word(frame, 4))),
+        Kind::Relabel => Call::Relabel,
+        Kind::Request => Call::Request {
+            job: word(frame, 4),
             k: frame[6],
             strategy: frame[7],
         },
-        GROW => Call::Grow {
-            job: field,
+        Kind::Release => Call::Release(word(frame, 4)),
+        Kind::Grow => Call::Grow {
+            job: word(frame, 4),
             k: frame[6],
             strategy: frame[7],
         },
-        _ => Call::Release(field),
     }
 }
 
 // Any bytes to a call, or to the first of causes 3, 4 and 5 that they meet. Document 01, "When a call says no".
-pub fn parse(frame: &[u8]) -> Parsed
+pub fn parse(frame: &[u8]) -> Result<Call, Refusal>
     ensures { result ≡ parsed frame.now }
 {
     let len = frame.len();
     if len < 4 {
-        return Parsed::Bad(3);
+        return Err(Refusal::WrongLength);
     }
-    if word(frame, 0) as usize != len {
-        return Parsed::Bad(3);
+    if usize::from(word(frame, 0)) != len {
+        return Err(Refusal::WrongLength);
     }
-    let kind = word(frame, 2);
-    let right = size_of(kind);
-    if right == 0 {
-        return Parsed::Bad(4);
+    let kind = Kind::try_from(word(frame, 2))?;
+    if len != kind.size() {
+        return Err(Refusal::WrongSize);
     }
-    if len != right {
-        return Parsed::Bad(5);
-    }
-    Parsed::Known(call_of(frame, kind))
-}
-
-// x as the two bytes from place `at` on, little-endian.
-fn put_word(bytes: &mut [u8], at: usize, x: u16)
-    requires { at + 1 < length bytes.old }
-    ensures { bytes.new ≡ put_word bytes.old at x }
-{
-    bytes[at] = (x % 256) as u8;
-    bytes[at + 1] = (x / 256) as u8;
-}
-
-// The numbers, two bytes each, in the place of the first bytes.
-fn put_words(bytes: &mut [u8], numbers: &[u16])
-    requires { 2 * length numbers.now ≤ length bytes.old }
-    ensures { bytes.new ≡ written (words numbers.now) bytes.old }
-{
-    let mut i = 0;
-    while i < numbers.len() {
-        put_word(bytes, 2 * i, numbers[i]);
-        i += 1;
-    }
+    Ok(call_of(frame, kind))
 }
 
 // The reply's frame. "Reply bytes past the frame keep their values."
@@ -135,15 +113,15 @@ pub fn answer(reply: &mut [u8], r: Reply)
             tried,
         } => {
             let fields = [12, 0x8001, job, low.0, stars, tried];
-            put_words(reply, &fields);
+            put_words(&fields, 0, reply);
         }
         Reply::Refused { number, tried } => {
             let fields = [8, 0x8002, number, tried];
-            put_words(reply, &fields);
+            put_words(&fields, 0, reply);
         }
         Reply::Done(value) => {
             let fields = [6, 0x8003, value];
-            put_words(reply, &fields);
+            put_words(&fields, 0, reply);
         }
     }
 }

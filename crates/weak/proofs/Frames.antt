@@ -23,7 +23,7 @@ use Rattle.history.specs.Verdicts.{cause, accept, tell, step, verdict, verdicts}
 use Rattle.history.specs.Held.{Held, without, held}
 use Rattle.state.specs.declared.Call.TheVariants.{Good, Relabel, Request, Release, Grow}
 use Rattle.state.specs.Acts.{call_of}
-use Rattle.frames.specs.declared.Parsed.TheVariants.{Known}
+use Rattle.std.specs.Prelude.{Ok}
 use Rattle.frames.specs.Parse.{sized, parsed}
 use Rattle.cube.specs.Run.{Exchange, Exchanges, begin, ◌next◌, fed, feed, history_at}
 use Rattle.no_waste.specs.NoWaste.{free_nodes}
@@ -86,39 +86,39 @@ outside = begin next good 2 next asks 1 next good 0 next good 1
 abbrev pub shared : Exchanges
 shared = two next asks 1 next asks 2
 
-pub parsed-good : (x : ℕ) → parsed (good x).frame ≡ Known (Good (record { 0 = x }))
+pub parsed-good : (x : ℕ) → parsed (good x).frame ≡ Ok (Good (record { 0 = x }))
 unfolding parsed call_of sized word kind_of
 parsed-good x = let e : x + 256 * 0 ≡ x = omega arith in rw e
 
-pub parsed_asks : (j : ℕ) → parsed (asks j).frame ≡ Known (Request j 0 0)
+pub parsed_asks : (j : ℕ) → parsed (asks j).frame ≡ Ok (Request j 0 0)
 unfolding parsed call_of sized word kind_of
 parsed_asks j = let e : j + 256 * 0 ≡ j = omega arith in rw e
 
-pub parsed-relabel : parsed relabels.frame ≡ Known Relabel
+pub parsed-relabel : parsed relabels.frame ≡ Ok Relabel
 unfolding parsed call_of sized word kind_of
 parsed-relabel = refl
 
-pub parsed-pair : parsed pair.frame ≡ Known (Request 1 1 0)
+pub parsed-pair : parsed pair.frame ≡ Ok (Request 1 1 0)
 unfolding parsed call_of sized word kind_of
 parsed-pair = refl
 
-pub parsed-release : parsed gives_back.frame ≡ Known (Release 1)
+pub parsed-release : parsed gives_back.frame ≡ Ok (Release 1)
 unfolding parsed call_of sized word kind_of
 parsed-release = refl
 
-pub parsed-grow : parsed grows.frame ≡ Known (Grow 1 1 0)
+pub parsed-grow : parsed grows.frame ≡ Ok (Grow 1 1 0)
 unfolding parsed call_of sized word kind_of
 parsed-grow = refl
 
-pub parsed_fits : parsed fits.frame ≡ Known (Request 1 0 4)
+pub parsed_fits : parsed fits.frame ≡ Ok (Request 1 0 4)
 unfolding parsed call_of sized word kind_of
 parsed_fits = refl
 
-pub parsed_fits_pair : parsed fits_pair.frame ≡ Known (Request 1 1 4)
+pub parsed_fits_pair : parsed fits_pair.frame ≡ Ok (Request 1 1 4)
 unfolding parsed call_of sized word kind_of
 parsed_fits_pair = refl
 
-pub parsed_second_pair : (f : ℕ) → parsed (second_pair f).frame ≡ Known (Request 2 1 f)
+pub parsed_second_pair : (f : ℕ) → parsed (second_pair f).frame ≡ Ok (Request 2 1 f)
 unfolding parsed call_of sized word kind_of
 parsed_second_pair f = refl
 

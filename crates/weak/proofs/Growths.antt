@@ -29,7 +29,7 @@ use Rattle.state.proofs.Valid.{Sized}
 use Rattle.record.specs.Layout.{holders_at, record_size, decode}
 use Rattle.record.proofs.Round.{decode_holder, decode_condition, word-says, says_holders, sized-decode}
 use Rattle.steps.proofs.Ways.{state_valid}
-use Rattle.frames.specs.declared.Parsed.TheVariants.{Known}
+use Rattle.std.specs.Prelude.{Ok}
 use Rattle.frames.specs.Parse.{parsed}
 use Rattle.cube.specs.Called.{setup_record, delivered}
 use Rattle.cube.specs.Run.{Exchange, Exchanges, begin, ◌next◌, fed, feed, record_after, held_at}
@@ -85,7 +85,7 @@ both_granted s v n c0 c1 h0 h1 =
 
 -- a call that does what it does by the delivered program, and a list of them
 abbrev Same : Asks → Exchange → Type 0
-Same g x = (c : Call) × (parsed x.frame ≡ Known c) × ((s : State) → growing g s c ≡ acted s c)
+Same g x = (c : Call) × (parsed x.frame ≡ Ok c) × ((s : State) → growing g s c ≡ acted s c)
 
 abbrev AllSame : Asks → Exchanges → Type 0
 AllSame g begin = Unit {0}

@@ -10,14 +10,14 @@ use Rattle.hypercube.specs.Replies.{number_of, frame_of, written}
 use Rattle.state.specs.declared.Call.{Call}
 use Rattle.state.specs.Acts.{acted}
 use Rattle.record.specs.Layout.{encode, decode, valid_record}
-use Rattle.frames.specs.declared.Parsed.TheVariants.{Known}
+use Rattle.std.specs.Prelude.{Ok}
 use Rattle.frames.specs.Parse.{parsed}
 use Rattle.cube.specs.Run.{Exchange}
 use Rattle.cube.specs.Called.{step_on, call_number, call_record, call_reply}
 use Rattle.weak.specs.Programs.{Acts, number_by, record_by, reply_by}
 
 -- a call x that does what the delivered program does on y leaves the record that y leaves there, and is returned y's number
-module _ (a : Acts) (r : List ℕ) (x y : Exchange) (c d : Call) (e : parsed x.frame ≡ Known c) (f : parsed y.frame ≡ Known d)
+module _ (a : Acts) (r : List ℕ) (x y : Exchange) (c d : Call) (e : parsed x.frame ≡ Ok c) (f : parsed y.frame ≡ Ok d)
     (s : a (decode r) c ≡ acted (decode r) d) where
   pub other_record : record_by a r x.frame x.buffer ≡ call_record r y.frame x.buffer
   unfolding record_by number_by call_record call_number step_on
@@ -28,7 +28,7 @@ module _ (a : Acts) (r : List ℕ) (x y : Exchange) (c d : Call) (e : parsed x.f
   other_returned = rw (e, f, s)
 
 -- one that does what it does by the delivered program leaves the same record, and is answered the same
-module _ (a : Acts) (r : List ℕ) (x : Exchange) (c : Call) (e : parsed x.frame ≡ Known c) (s : a (decode r) c ≡ acted (decode r) c) where
+module _ (a : Acts) (r : List ℕ) (x : Exchange) (c : Call) (e : parsed x.frame ≡ Ok c) (s : a (decode r) c ≡ acted (decode r) c) where
   pub same_call : record_by a r x.frame x.buffer ≡ call_record r x.frame x.buffer
   same_call = other_record a r x x c c e e s
 
@@ -40,7 +40,7 @@ module _ (a : Acts) (r : List ℕ) (x : Exchange) (c : Call) (e : parsed x.frame
   same_reply = rw (e, s)
 
 -- a call on a record that is one, with room for a reply
-module _ (a : Acts) (r : List ℕ) (x : Exchange) (c : Call) (e : parsed x.frame ≡ Known c) (v : valid_record r ≡ true)
+module _ (a : Acts) (r : List ℕ) (x : Exchange) (c : Call) (e : parsed x.frame ≡ Ok c) (v : valid_record r ≡ true)
     (room : ltb (length x.buffer) 12 ≡ false) where
   pub number_is : number_by a r x.frame x.buffer ≡ number_of (a (decode r) c).reply
   unfolding number_by

@@ -1,8 +1,10 @@
 -- Document 01, "Programs that would pass a weak contract". Each differs from the delivered program in what it does on a request.
-use Rattle.std.specs.Prelude.{ℕ, ◌-◌, ◌^◌, cond, List, eqb, ltb, length}
+use Rattle.std.specs.Prelude.{ℕ, ◌-◌, ◌^◌, cond, List, eqb, ltb, length, Result, Ok, Err}
 use Rattle.hypercube.specs.Bits.{width}
 use Rattle.hypercube.specs.Subcubes.{vertices}
 use Rattle.hypercube.specs.Families.{family}
+use Rattle.hypercube.specs.Refusals.{refusal_number}
+use Rattle.hypercube.specs.declared.Refusal.{Refusal}
 use Rattle.hypercube.specs.declared.Reply.{Reply}
 use Rattle.hypercube.specs.declared.Reply.TheVariants.{Granted, Refused, Done}
 use Rattle.hypercube.specs.Replies.{granted, number_of, frame_of, written}
@@ -15,8 +17,6 @@ use Rattle.state.specs.Checks.{any_held}
 use Rattle.state.specs.Effects.{step}
 use Rattle.state.specs.Acts.{refuse, acted}
 use Rattle.record.specs.Layout.{encode, decode, valid_record}
-use Rattle.frames.specs.declared.Parsed.{Parsed}
-use Rattle.frames.specs.declared.Parsed.TheVariants.{Known, Bad}
 use Rattle.frames.specs.Parse.{parsed}
 use Rattle.cube.specs.Called.{Program, setup_number, setup_record, load_number}
 
@@ -24,9 +24,9 @@ use Rattle.cube.specs.Called.{Program, setup_number, setup_record, load_number}
 abbrev pub Acts : Type 0
 Acts = State → Call → Step
 
-abbrev pub step_by : Acts → State → Parsed → Step
-step_by a s (Known c) = a s c
-step_by a s (Bad m) = refuse s m
+abbrev pub step_by : Acts → State → Result Call Refusal → Step
+step_by a s (Ok c) = a s c
+step_by a s (Err e) = refuse s (refusal_number e)
 
 unfoldable pub number_by : Acts → List ℕ → List ℕ → List ℕ → ℕ
 number_by a r f p = cond (valid_record r) (cond (ltb (length p) 12) 2 (number_of (step_by a (decode r) (parsed f)).reply)) 1
