@@ -61,10 +61,6 @@ module _ {s : State} {r : List ℕ} where
             ∙ p.rest j (omega arith);
       }
 
-  -- the same place, written another way
-  pub stored_to : {i : ℕ} {l : List ℕ} (j : ℕ) → Stored s r i l → i ≡ j → Stored s r j l
-  stored_to {i} {l} j p e = subst (λ (k : ℕ). Stored s r k l) e p
-
 -- the head: two words, n, the map, and the zero byte
 pub head_stored : {s : State} {r a b m : List ℕ} → Sized s → length r ≡ record_size → a ≡ put_word r 0 record_size → b ≡ put_word a 2 record_kind
     → m ≡ s.map → Stored s r holders_at (set (put_mid map_at 10 (set b 4 s.n) m) 15 0)
