@@ -1,4 +1,4 @@
-// The frame of each call. Document 01, "Six calls and their frames".
+// The frame of each call. Document 01, "Six calls and their frames". The kinds' numbers stand here again: those of `frames` are what is tried.
 #![tactic(auto, unfolding(hypercube::specs::Words::words))]
 
 ghost use Rattle.std.specs.Prelude.{◌≡◌, [], ◌∷◌, ◌++◌};

@@ -100,7 +100,7 @@ pub fn parse(frame: &[u8]) -> Result<Call, Refusal>
     Ok(call_of(frame, kind))
 }
 
-// The reply's frame. "Reply bytes past the frame keep their values."
+// The reply's frame. "Reply bytes past the frame keep their values." Length and kind of each stand here alone, so that they have no names.
 pub fn answer(reply: &mut [u8], r: Reply)
     requires { 12 ≤ length reply.old }
     ensures { reply.new ≡ written (frame_of r) reply.old }

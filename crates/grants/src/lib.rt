@@ -33,12 +33,12 @@ fn walk_of(rec: &[u8], map: &[u8; 10], job: u16, k: u8, strategy: u8) -> Walk
     requires { (valid_record rec.now ≡ true) × ((map.now ≡ (decode rec.now).map) × (k ≤ (decode rec.now).n)) }
     ensures { result ≡ walk_of (decode rec.now) job k strategy }
 {
-    let n = record::dimension(rec) as u16;
+    let n = u16::from(record::dimension(rec));
     let size = steps::nodes_of(rec);
     let mut flags = [0; 1024];
     nodes::flags_by_node(rec, size, job, &mut flags);
     labels::flags_by_label(n, map, &mut flags);
-    walks::choose(&flags, strategy, n, k as u16)
+    walks::choose(&flags, strategy, n, u16::from(k))
 }
 
 // The job's nodes made unheld, before it is given others. `held` is how many it has: a request's job has none, and nothing is written.
@@ -121,7 +121,7 @@ fn check_growth(held: u16, k: u8) -> Result<(), Refusal>
     if held == 0 {
         return Err(Refusal::HoldsNone);
     }
-    if hypercube::pow2(k as u16) <= held {
+    if hypercube::pow2(u16::from(k)) <= held {
         return Err(Refusal::NotMore);
     }
     Ok(())

@@ -119,7 +119,8 @@ fn is_alone(marks: &mut [u8; 8192], x: u16, holder: u16, stars: u16) -> bool
     !is_lowest(x, holder, stars) || mark(marks, holder)
 }
 
-// Whether each job has one lowest node below `size`. A mark for each job number tells whether one came before.
+// Whether each job has one lowest node below `size`. A mark for each job number, a bit as there is no heap, tells whether one came before.
+// The loops over nodes stay apart: one for all would take each test as a closure, with clauses longer than the loop.
 fn all_alone(bytes: &[u8], size: u16) -> bool
     requires { (length bytes.now ≡ record_size) × (size ≤ 1024) }
     ensures { result ≡ all_below (alone_at bytes.now) size }

@@ -23,7 +23,7 @@ fn beyond(rec: &[u8], x: Node) -> bool
     requires { valid_record rec.now ≡ true }
     ensures { result ≡ leb (2 ^ (decode rec.now).n) x.0 }
 {
-    steps::nodes_of(rec) <= x.0 as usize
+    steps::nodes_of(rec) <= usize::from(x.0)
 }
 
 // Whether a node in this condition may not be reported: 'good' if it is faulty, 'repaired' unless it is, 'fault' never.

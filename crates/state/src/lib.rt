@@ -10,7 +10,7 @@ ghost use Rattle.hypercube.specs.Replies.{number_of};
 use hypercube::{Node, Reply};
 
 // A cube: its dimension, the map, and the holder and the condition of each of 1024 nodes (document 01, "Node and record"), with the star bits of the
-// grant that holds it (document 02, (f)).
+// grant that holds it (document 02, (f)). An array for each, as document 01 names the form, and as they lie in a record.
 #[derive(Clone, Copy)]
 pub struct State {
     pub n: u8,

@@ -41,8 +41,7 @@ fn label_free(flags: &[u8; 1024], l: Label) -> bool
     requires { l.0 < 1024 }
     ensures { result ≡ flagged flags.now l.0 }
 {
-    let i = l.0 as usize;
-    flags[i] == 1
+    flags[usize::from(l.0)] == 1
 }
 
 // Whether a subcube of k stars is free: "at k = 0, its node is free, otherwise both halves across its highest star are free".
@@ -106,7 +105,7 @@ fn label_at(labels: &[u16], b: u16) -> Label
     requires { Lent (suc b) labels.now }
     ensures { result.0 ≡ G b }
 {
-    Label(labels[b as usize])
+    Label(labels[usize::from(b)])
 }
 
 // Gray's member α, above the lowest j bits: the neighbours at positions α and α + 1 of 2^m, the last's next being the first.
@@ -512,7 +511,7 @@ pub fn extended_walk(flags: &[u8; 1024], n: u16, k: u16) -> Walk
     more_walk(flags, n, k - 1, tried)
 }
 
-// What a strategy chooses. No strategy above 4 has a member.
+// What a strategy chooses. No strategy above 4 has a member. It takes a number and no enum: what it ensures speaks of each number.
 pub fn choose(flags: &[u8; 1024], strategy: u8, n: u16, k: u16) -> Walk
     requires { (k ≤ n) × (n ≤ 10) }
     ensures { result ≡ choice strategy n k (flagged flags.now) }
