@@ -159,8 +159,8 @@ fn highest(part: &[u8]) -> u8
     m
 }
 
-// Whether every byte is 0. This loop too reads both halves to their ends, and its 'or' is cheaper than `highest`'s comparison: one for both would take
-// that step as a closure, with clauses longer than the loop.
+// Whether every byte is 0. This loop too reads both halves to their ends, and its 'or' is cheaper than `highest`'s comparison. One for both would
+// take that step as a closure, with clauses longer than the loop.
 pub fn all_zero(part: &[u8]) -> bool
     ensures { result ≡ all_zero part.now }
 {
