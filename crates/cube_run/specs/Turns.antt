@@ -19,6 +19,11 @@ pub record Fed (left left' : Option (List ℕ)) (s : Stream) (w : List ℕ) (t :
   pub stream : t ≡ took s count
   pub consumed : Consumes left left' (piece s count w')
 
+-- after a write, by whether it was made
+abbrev pub after_write : {E : Type 0} → Result (Unit {0}) E → Stream → Result Stream E
+after_write (Ok u) s = Ok (wrote s)
+after_write (Err e) s = Err e
+
 -- a write of what the stream tells, made or failed; one that was made is behind what the writer held
 abbrev pub Handed : {E : Type 0} → (held held' : Option (List ℕ)) → List ℕ → Stream → Result Stream E → Type 0
 Handed held held' bytes s t = IfOk t (λ u. (u ≡ wrote s) × Appends held held' bytes)

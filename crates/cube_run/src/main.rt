@@ -4,7 +4,7 @@
 
 ghost use Rattle.std.specs.Prelude.{◌≡◌, ◌+◌, ◌<◌, ◌≤◌, ◌^◌, length};
 ghost use Rattle.log_stream.specs.Streams.{took, unwritten, Ready};
-ghost use Rattle.cube_run.specs.Turns.{read_count, Fed, Handed, Turned, Printed};
+ghost use Rattle.cube_run.specs.Turns.{read_count, Fed, after_write, Handed, Turned, Printed};
 
 use log_stream::Stream;
 use std::io;
@@ -42,13 +42,21 @@ fn read_more<I: Read>(rt: &impl Eprint, input: &mut I, window: &mut [u8], s: Str
     after_read(rt, got, &window[from..], s)
 }
 
+// What follows a write: the stream whose bytes were written, or the write's error.
+fn after_write(written: io::Result<()>, s: Stream) -> io::Result<Stream>
+    ensures { result ≡ after_write written s }
+{
+    written?;
+    Ok(s.wrote())
+}
+
 // One write of all that is to be written.
 fn write_out<O: Write>(output: &mut O, out: &[u8], s: Stream) -> io::Result<Stream>
     requires { s.place.put ≤ length out.now }
     ensures { Handed (O.contents output.old) (O.contents output.new) (unwritten s out.now) s result }
 {
-    output.write_all(log_stream::to_write(out, s))?;
-    Ok(s.wrote())
+    let written = output.write_all(log_stream::to_write(out, s));
+    after_write(written, s)
 }
 
 // One turn, and then the read or the write that is due.

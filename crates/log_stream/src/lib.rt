@@ -11,7 +11,7 @@ const COUNTS: usize = 88;
 
 // Where the log is in a window on the input and in the output, how many bytes of the window are input, and whether the input ends with them.
 // After a turn the place says what is due: it waits for a read into the window from `filled` on, or the bytes in the output are to be written. A log
-// that has ended, and whose bytes are written, is done.
+// that has ended, and whose bytes are written, is done. `last` is beside no value that hangs on it: the window's bytes are input either way.
 #[derive(Clone, Copy)]
 pub struct Stream {
     pub place: Place,

@@ -8,7 +8,7 @@ use frame_log::{Cursor, Step};
 use tally::{Outcome, Tally};
 
 // How far a log is: the place in the window, the place in the output, the counts so far, whether it has ended, and whether it waits for more input.
-// Two flags and no enum: the definitions `Left`, `Turned` and `Ran` (specs/Moves.antt) and the theorem on runs above speak of each by itself.
+// Two flags and no enum: the definitions `Left`, `Turned` and `Ran` (specs/Moves.antt) and `run_right` of log_stream speak of each by itself.
 #[derive(Clone, Copy)]
 pub struct Place {
     pub at: usize,

@@ -204,13 +204,15 @@ fn each_walk<F: Family>(flags: &[u8; 1024], family: &F, k: u16) -> Walk
     ensures { result ≡ first_free (is_free (flagged flags.now)) (each (F.at family.now) (F.total family.now)) 0 }
 {
     let count = family.count();
+    let mut tried: u16 = 0;
     for alpha in 0..count {
         let m = family.member(alpha);
+        tried += 1;
         if member_free(flags, m, k) {
-            return Walk::Found(m, alpha + 1);
+            return Walk::Found(m, tried);
         }
     }
-    Walk::NoneFree(count)
+    Walk::NoneFree(tried)
 }
 
 // Buddy: "stars are the lowest k bits. Ascending by lowest label."
