@@ -49,11 +49,12 @@ fn whole_to(bytes: &[u8], n: u16, at: u16, end: u16) -> bool
         × ((n ≤ 10) × ((at ≤ end) × ((end ≤ 1024) × (true ≡ all_below (whole_at bytes.now n) at)))) }
     ensures { result ≡ all_below (whole_at bytes.now n) end }
 {
-    let mut right = true;
     for x in at..end {
-        right = right & is_whole(bytes, n, x, holder_at(bytes, x), stars_at(bytes, x));
+        if !is_whole(bytes, n, x, holder_at(bytes, x), stars_at(bytes, x)) {
+            return false;
+        }
     }
-    right
+    true
 }
 
 // The same of a block of nodes; where none of them is held, it is so at once.
@@ -126,11 +127,12 @@ fn all_alone(bytes: &[u8], size: u16) -> bool
     ensures { result ≡ all_below (alone_at bytes.now) size }
 {
     let mut marks: [u8; 8192] = [0; 8192];
-    let mut right = true;
     for x in 0..size {
-        right = right & is_alone(&mut marks, x, holder_at(bytes, x), stars_at(bytes, x));
+        if !is_alone(&mut marks, x, holder_at(bytes, x), stars_at(bytes, x)) {
+            return false;
+        }
     }
-    right
+    true
 }
 
 // Whether node y is the lowest of a subcube of this job.
