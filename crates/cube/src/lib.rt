@@ -33,8 +33,7 @@ pub fn cube_setup(rec: &mut [u8], n: u32) -> u32
 }
 
 // Document 02, (g): whether a record that comes back from disk may begin a list of calls. 1 for bytes that refusal 1 meets, then 18 for a record in
-// which a job's nodes and star bits don't form a subcube. Size and head are looked at first, and the rest is read by a slice of its own, so that the
-// compiler makes 8 KB of room on the stack for bytes with a record's head only.
+// which a job's nodes and star bits don't form a subcube. Size and head are looked at first, and the rest is read by a slice of its own.
 pub fn cube_load(rec: &[u8]) -> u32
     ensures { Loaded delivered rec.now result }
 {
