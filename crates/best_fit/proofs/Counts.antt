@@ -1,7 +1,7 @@
 -- How many numbers below N pass a test, and the first that does, as loops find them. Assumes nothing.
 use Prim.Native.Nat.{ℕ, zero, suc, ◌+◌, ◌*◌, ◌<◌, ◌≤◌, min}
 use mathlib.Core.Logic.{◌≢◌}
-use mathlib.Core.Path.{◌≡◌, refl, ap, ◌∙◌}
+use mathlib.Core.Path.{◌≡◌, refl, ap, ap₂, ◌∙◌}
 use mathlib.Core.Bool.{Bool, true, false, not, cond, ◌&&◌}
 use native.Mathlib.Decide.{ℕ_discrete}
 use native.Mathlib.Numerals.{add-one}
@@ -71,6 +71,12 @@ least a b = cases (ltb a b) (λ t. rw t (omega (arith, ltb-true a b t))) (λ t. 
 pub first_more : (test : ℕ → Bool) (i : ℕ) → min (first_below i test) (placed (test i) i) ≡ first_below (i + 1) test
 unfolding first_below
 first_more test i = rw (add-one i) (least (first_below i test) (placed (test i) i))
+
+pub first_same : (N : ℕ) (p q : ℕ → Bool) → ((x : ℕ) → x < N → p x ≡ q x) → first_below N p ≡ first_below N q
+unfolding first_below
+first_same zero p q h = refl
+first_same (suc N) p q h =
+    ap₂ (λ (k : ℕ) (b : Bool). lesser k (placed b N)) (first_same N p q (λ x l. h x (omega arith))) (h N (omega arith))
 
 -- what is first: it passes, none before it does, and it is below N unless none passes
 pub record First (test : ℕ → Bool) (N r : ℕ) : Type 0 where
