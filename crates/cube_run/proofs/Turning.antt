@@ -1,14 +1,15 @@
 -- A turn of the program is a turn of a run, by what was due. Assumes nothing.
 use Rattle.std.proofs.Common.{◌≡◌, ℕ, ◌+◌, ◌≤◌, true, false, List, [], ◌++◌, length, nat_eq, None, Some, inl, inr}
 use Rattle.std.proofs.Common.{refl, sym, ap, subst, ◌∙◌, arith, append_assoc, append-nil}
-use Rattle.std.specs.Prelude.{Result, Ok, Err, IfOk}
+use Rattle.std.specs.Prelude.{Result, Ok, Err, IfOk, is_ok}
+use Rattle.std.proofs.lemmas.Bool.{false≢true}
 use Rattle.std.specs.declared.option.Option.{Option}
 use Rattle.std.specs.Io.KnownBytes.{Consumes, Appends}
 use Rattle.log_stream.specs.declared.Stream.{Stream}
 use Rattle.log_stream.specs.Streams.{start, wrote, unwritten, Ready, Advanced}
 use Rattle.log_stream.specs.Runs.{piece, begins, reads, writes, Reached, turns}
 use Rattle.log_stream.proofs.Theorem.{holds, run_right}
-use Rattle.cube_run.specs.Turns.{Fed, OneMore, Finished}
+use Rattle.cube_run.specs.Turns.{Fed, after_write, OneMore, Finished}
 
 -- ---- known bytes: none are read or written, and one piece after the other
 
@@ -31,6 +32,15 @@ appends_more None l m xs ys c d = tt
 appends_more (Some ks) None m xs ys c d = absurd c
 appends_more (Some ks) (Some ls) None xs ys c d = absurd d
 appends_more (Some ks) (Some ls) (Some ms) xs ys c d = d ∙ ap (λ zs. zs ++ ys) c ∙ append_assoc ks xs ys
+
+-- a write whose answer is a stream was made, and a made one's stream is the one that it tells
+written : {E : Type 0} (u t : Stream) (w : Result (Unit {0}) E) → after_write w u ≡ Ok t → is_ok w ≡ true
+written u t (Ok x) e = refl
+written u t (Err x) e = ap is_ok e
+
+made : {E : Type 0} (u : Stream) (w : Result (Unit {0}) E) → is_ok w ≡ true → after_write w u ≡ Ok (wrote u)
+made u (Ok x) h = refl
+made u (Err x) h = absurd (false≢true h)
 
 module _ {s u : Stream} {r w out r' w' out' : List ℕ} (A : Advanced s r w out u r' w' out') where
   pub reached_read : {t : Stream} {w'' : List ℕ} {left left' : Option (List ℕ)} (held : Option (List ℕ)) → u.place.waits ≡ true
