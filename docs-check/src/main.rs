@@ -78,12 +78,12 @@ fn name_of(name: &OsStr) -> String {
     name.to_string_lossy().into_owned()
 }
 
-/// The pages: docs/*.md and each README.md, but not docs/PORT.md and
-/// docs/DESIGN-PASS.md, which set what was beside what is.
+/// The pages: docs/*.md and each README.md, but not docs/PORT.md,
+/// docs/DESIGN-PASS.md and docs/LOOK-BACK.md, which set what was beside what is.
 fn pages(files: &[PathBuf]) -> Vec<Page> {
     let in_docs = |path: &Path| path.parent().is_some_and(|folder| folder.ends_with("docs"));
-    let of_old =
-        |path: &Path| path.ends_with("docs/PORT.md") || path.ends_with("docs/DESIGN-PASS.md");
+    let old = ["docs/PORT.md", "docs/DESIGN-PASS.md", "docs/LOOK-BACK.md"];
+    let of_old = |path: &Path| old.iter().any(|page| path.ends_with(page));
     let is_page =
         |path: &Path| path.extension().is_some_and(|e| e == "md") && in_docs(path) && !of_old(path);
     let pages = files.iter().filter(|path| is_page(path) || path.ends_with("README.md"));
